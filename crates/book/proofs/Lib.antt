@@ -1,0 +1,4 @@
+pub mod Blocks
+pub mod Causes
+pub mod Whole
+pub mod Record

@@ -1,0 +1,12 @@
+pub mod Tests
+pub mod Xor
+pub mod Linear
+pub mod IsField
+pub mod Ring
+pub mod Moore
+pub mod Product
+pub mod Remainder
+pub mod Inverse
+pub mod Gf256
+pub mod Steps
+pub mod Powers

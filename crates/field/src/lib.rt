@@ -1,0 +1,56 @@
+// Arithmetic of the field of 256 elements.
+ghost use mathlib.Core.Path.{_≡_};
+ghost use Rattle.field.specs.Field.{_⊕_, _·_};
+
+// The sum.
+pub fn add(a: u8, b: u8) -> u8
+    ensures { λ r. ⌜ r ≡ a ⊕ b ⌝ }
+{
+    a ^ b
+}
+
+// x times a: a shift, a test of the top bit, and the mask of the modulus below its top bit.
+fn times_x(a: u8) -> u8
+    ensures { λ r. ⌜ r ≡ 2 · a ⌝ }
+{
+    let shifted = a << 1;
+    if a & 0x80 == 0 {
+        shifted
+    } else {
+        shifted ^ 0x1D
+    }
+}
+
+// The product, in eight rounds: one for each digit of b, from the lowest.
+pub fn mul(a: u8, b: u8) -> u8
+    ensures { λ r. ⌜ r ≡ a · b ⌝ }
+{
+    let mut x = a;
+    let mut y = b;
+    let mut r: u8 = 0;
+    let mut n: usize = 8;
+    while 0 < n {
+        if y & 1 == 1 {
+            r = r ^ x;
+        }
+        x = times_x(x);
+        y = y >> 1;
+        n = n - 1;
+    }
+    r
+}
+
+// The inverse of a, and 0 for 0: a to the power 254, by squarings.
+pub fn invert(a: u8) -> u8
+    ensures { λ r. ⌜ ((a ≡ 0 → r ≡ 0) × ((a ≡ 0 → ⊥) → a · r ≡ 1)) ⌝ }
+{
+    let mut y = mul(a, a);
+    let mut r: u8 = 1;
+    let mut n: usize = 7;
+    while 0 < n {
+        r = mul(r, y);
+        y = mul(y, y);
+        n = n - 1;
+    }
+    r
+}

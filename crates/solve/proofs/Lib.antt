@@ -1,0 +1,4 @@
+pub mod Describe
+pub mod Quotient
+pub mod Matrix
+pub mod Made

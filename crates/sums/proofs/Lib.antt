@@ -1,0 +1,4 @@
+pub mod Points
+pub mod Fold
+pub mod Rows
+pub mod Table

@@ -1,0 +1,160 @@
+// The eleven sums of a block: nine of chips, and two of labels times bytes.
+//
+// The label sums take no product a byte. A label is kept as a word with one of its eight binary digits in each byte, so that byte times
+// word, summed over the positions, gathers in byte k the bytes whose label has digit k. A label sum is then that word's eight bytes as a
+// polynomial, at x for the labels and at x squared for their squares.
+ghost use mathlib.Core.Path.{_≡_};
+ghost use mathlib.Core.List.{List};
+ghost use Prim.Native.Nat.{ℕ, _<_, _*_};
+ghost use lib.ListN.{length};
+ghost use Rattle.code.specs.Labels.{built-in};
+ghost use Rattle.field.specs.Field.{sum};
+ghost use Rattle.code.specs.Block.{byte, position};
+ghost use Rattle.sums.specs.Sums.{RowSums, label-sum, square-sum, Spread, Small};
+ghost use Rattle.sums.specs.Steps.{gathered, at-point, reduced};
+
+// The 45 built-in labels, spread.
+const WORDS: [u64; 45] = [
+    0x0000000000000001,
+    0x0000000000000100,
+    0x0000000000010000,
+    0x0000000001000000,
+    0x0000000100000000,
+    0x0000010000000000,
+    0x0001000000000000,
+    0x0100000000000000,
+    0x0000000101010001,
+    0x0100000101000000,
+    0x0000010001010001,
+    0x0001000101000100,
+    0x0100010100010000,
+    0x0001010100010001,
+    0x0101010001000100,
+    0x0101000001000001,
+    0x0100000001010101,
+    0x0000000000000101,
+    0x0001000001010100,
+    0x0100000101010000,
+    0x0000010000010001,
+    0x0001000001000100,
+    0x0100000100010000,
+    0x0000010100010001,
+    0x0001010001000100,
+    0x0101000100010000,
+    0x0100010100010001,
+    0x0000000001000100,
+    0x0000000100010000,
+    0x0000010001000000,
+    0x0001000100000000,
+    0x0100010000000000,
+    0x0001000101010001,
+    0x0100010101000100,
+    0x0001010001000001,
+    0x0101000100000100,
+    0x0100000101000001,
+    0x0000010001010101,
+    0x0001000101010100,
+    0x0100010101010000,
+    0x0001010000010001,
+    0x0101000001000100,
+    0x0100000001000001,
+    0x0000000001010101,
+    0x0000000101010100,
+];
+
+pub struct LabelSums {
+    pub once: u8,
+    pub squared: u8,
+}
+
+// The built-in labels' words.
+pub fn built_in() -> [u64; 45]
+    ensures { λ r. ⌜ Spread 45 built-in r × Small r ⌝ }
+{
+    WORDS
+}
+
+fn wide(x: u8) -> u64
+    ensures { λ r. ⌜ r ≡ x ⌝ }
+{
+    x as u64
+}
+
+// Byte k is the sum of the bytes whose label has digit k.
+fn gather(bytes: &[u8], words: &[u64]) -> u64
+    requires { ⌜ (length (now bytes) ≡ length (now words)) × Small (now words) ⌝ }
+    ensures { λ r. ⌜ r ≡ gathered (length (now (bytes .entry))) (now (bytes .entry)) (now (words .entry)) ⌝ }
+{
+    let mut u: u64 = 0;
+    let mut p: usize = 0;
+    while p < bytes.len() {
+        u = (wide(bytes[p]) * words[p]) ^ u;
+        p = p + 1;
+    }
+    u
+}
+
+// A polynomial of degree 15 at most, its digits from 8 up taken down by x ^ 8 = x ^ 4 + x ^ 3 + x ^ 2 + 1.
+fn reduce(v: u64) -> u64
+    ensures { λ r. ⌜ r ≡ reduced v ⌝ }
+{
+    (v & 0xff) ^ ((v >> 8) & 0xff) ^ ((v >> 6) & 0x3fc) ^ ((v >> 5) & 0x7f8) ^ ((v >> 4) & 0xff0)
+}
+
+// The bytes' polynomial at x: neighbours are added, the upper one shifted by 1, then pairs by 2, then fours by 4.
+fn at_x(u: u64) -> u8
+    ensures { λ r. ⌜ r ≡ at-point 2 8 u ⌝ }
+{
+    let a = (u & 0x00ff00ff00ff00ff) ^ ((u >> 7) & 0x01fe01fe01fe01fe);
+    let b = (a & 0x0000ffff0000ffff) ^ ((a >> 14) & 0x0003fffc0003fffc);
+    let c = (b & 0xffff) ^ ((b >> 28) & 0xffff0);
+    reduce(reduce(c)) as u8
+}
+
+// The same at x squared, with the shifts twice as far.
+fn at_x_squared(u: u64) -> u8
+    ensures { λ r. ⌜ r ≡ at-point 4 8 u ⌝ }
+{
+    let a = (u & 0x00ff00ff00ff00ff) ^ ((u >> 6) & 0x03fc03fc03fc03fc);
+    let b = (a & 0x0000ffff0000ffff) ^ ((a >> 12) & 0x000ffff0000ffff0);
+    let c = (b & 0xffffff) ^ ((b >> 24) & 0xffffff00);
+    let d = (c & 0xffff) ^ ((c >> 10) & 0x3fc0) ^ ((c >> 13) & 0x7f8) ^ ((c >> 14) & 0x3fc);
+    reduce(reduce(d)) as u8
+}
+
+// The two label sums of as many bytes as there are words.
+pub fn label_sums(bytes: &[u8], words: &[u64]) -> LabelSums
+    requires { ⌜ (length (now bytes) ≡ length (now words)) × Small (now words) ⌝ }
+    ensures { λ r. ⌜ ((labels : List ℕ) → Spread (length (now (bytes .entry))) labels (now (words .entry)) → (r .once ≡ label-sum (length (now (bytes .entry))) labels (now (bytes .entry))) × (r .squared ≡ square-sum (length (now (bytes .entry))) labels (now (bytes .entry)))) ⌝ }
+{
+    let u = gather(bytes, words);
+    let once = at_x(u);
+    let squared = at_x_squared(u);
+    LabelSums { once, squared }
+}
+
+// The sum of the five bytes of chip i.
+fn row_sum(block: &[u8], i: usize) -> u8
+    requires { ⌜ (length (now block) ≡ 45) × (i < 9) ⌝ }
+    ensures { λ r. ⌜ r ≡ sum 5 (λ j. byte (now (block .entry)) (position j i)) ⌝ }
+{
+    block[i] ^ block[i + 9] ^ block[i + 18] ^ block[i + 27] ^ block[i + 36]
+}
+
+// The nine sums of chips.
+pub fn row_sums(block: &[u8]) -> [u8; 9]
+    requires { ⌜ length (now block) ≡ 45 ⌝ }
+    ensures { λ r. ⌜ RowSums (now (block .entry)) r ⌝ }
+{
+    [
+        row_sum(block, 0),
+        row_sum(block, 1),
+        row_sum(block, 2),
+        row_sum(block, 3),
+        row_sum(block, 4),
+        row_sum(block, 5),
+        row_sum(block, 6),
+        row_sum(block, 7),
+        row_sum(block, 8),
+    ]
+}

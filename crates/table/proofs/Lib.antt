@@ -1,0 +1,4 @@
+pub mod Decide
+pub mod Candidate
+pub mod Row
+pub mod Table
