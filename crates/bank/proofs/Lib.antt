@@ -1,2 +1,3 @@
 pub mod Causes
 pub mod Done
+pub mod Tied

@@ -2,3 +2,4 @@ pub mod Blocks
 pub mod Causes
 pub mod Whole
 pub mod Record
+pub mod Tied

@@ -1,3 +1,4 @@
 pub mod Causes
 pub mod Chips
 pub mod Laws
+pub mod Tied

@@ -5,6 +5,7 @@ ghost use mathlib.Core.Path.{_≡_};
 ghost use mathlib.Core.Bool.{true, not, _&&_};
 ghost use Prim.Native.Nat.{_<_};
 ghost use lib.Dec.{ltb};
+ghost use lib.ListN.{getD};
 ghost use Rattle.marks.specs.Marks.{fresh-marks, bytes, of-bytes, card-in-range, places-in-range, in-range, two-equal, marks-cause, is-marked};
 ghost use Rattle.marks.specs.Place.{card-is, some-card, with-chip, without-chip, with-card, place-chip-cause, lift-chip-cause, place-card-cause, lift-card-cause, MarkDone};
 ghost use Rattle.marks.specs.declared.CardMark.the-variants.{None, Card};
@@ -61,6 +62,28 @@ pub fn from_bytes(b: [u8; 4]) -> Marks
         first: b[2],
         second: b[3],
     }
+}
+
+// The byte at i, or 0 beyond the end.
+fn byte_or_zero(b: &[u8], i: usize) -> u8
+    ensures { λ r. ⌜ r ≡ getD (now (b .entry)) i 0 ⌝ }
+{
+    if i < b.len() {
+        return b[i];
+    }
+    0
+}
+
+// The record in the first four bytes of a slice. A byte that is not there counts as 0: who calls this looks at the length first.
+pub fn from_slice(b: &[u8]) -> Marks
+    ensures { λ r. ⌜ r ≡ of-bytes (now (b .entry)) ⌝ }
+{
+    from_bytes([
+        byte_or_zero(b, 0),
+        byte_or_zero(b, 1),
+        byte_or_zero(b, 2),
+        byte_or_zero(b, 3),
+    ])
 }
 
 // The four bytes of a record.
