@@ -25,6 +25,10 @@ pub by-second : (a b : ℕ) → a ≡ 0 → or-else a b ≡ b
 by-second zero b e = refl
 by-second (suc a) b e = absurd (omega arith)
 
+pub first-none : (a b : ℕ) → or-else a b ≡ 0 → a ≡ 0
+first-none zero b e = refl
+first-none (suc a) b e = e
+
 -- ---- the bank's own causes
 pub empty-bank : (n : ℕ) → n ≡ 0 → size-cause n ≡ 4
 unfolding size-cause

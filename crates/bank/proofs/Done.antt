@@ -17,6 +17,7 @@ use Rattle.store.specs.Store.{store-cause, StoredBy, StoreDone}
 use Rattle.refusal.specs.Refusal.{outcome, unless-refused}
 use Rattle.refusal.specs.declared.Outcome.{Outcome}
 use Rattle.refusal.specs.declared.Outcome.the-variants.{Done, Refused as NotDone}
+use Rattle.marks.specs.Marks.{marks-cause}
 use Rattle.marks.specs.declared.Marks.{Marks}
 use Rattle.code.specs.Block.{OneMember, Stored}
 use Rattle.code.specs.Labels.{built-in}
@@ -26,9 +27,11 @@ use Rattle.reading.specs.declared.Reading.{Reading}
 use Rattle.reading.specs.declared.Reading.the-variants.{Corrected, Nothing, Several, Refused}
 use Rattle.bank.specs.Calls.{blocks, block, with-block, size-cause, clear-cause, put-cause, get-cause, patrol-cause, report-cause, ClearDone, PutBy, PutDone, GetBy, GetDone, PatrolBy, PatrolDone, counted, totals, no-totals, EachReads, CountedBlocks, Room, ReportBy, ReportDone}
 use Rattle.bank.specs.declared.Totals.{Totals}
+use Rattle.bank.proofs.Causes.{first-none, small, report-is}
+use Rattle.bank.specs.declared.Tally.{Tally}
 use Rattle.bank.specs.declared.Tally.the-variants.{Counted, Refused as NotCounted}
 
-abbrev AtMost : ℕ → Totals → Type 0
+abbrev pub AtMost : ℕ → Totals → Type 0
 AtMost n t = (t .clean ≤ n) × (t .chips ≤ n) × (t .card ≤ n) × (t .none ≤ n) × (t .several ≤ n)
 
 no-cause : (rec out : List ℕ) → length out ≡ 45 → length rec ≡ 34 → store-cause rec out ≡ 0
@@ -189,6 +192,27 @@ totals-le f (suc n) = counted-le (f n) (totals f n) n (totals-le f n)
 
 pub room : (bank : List ℕ) (m : Marks) (n : ℕ) (t : Totals) → CountedBlocks bank m n t → n < 65535 → Room t
 room bank m n t w h = let v = subst (AtMost n) (sym (w .2)) (totals-le (w .0) n) in omega (arith, v)
+
+the-totals : Tally → Totals
+the-totals (Counted t) = t
+the-totals (NotCounted n) = no-totals
+
+is-counted : Tally → Type 0
+is-counted (Counted t) = Unit
+is-counted (NotCounted n) = ⊥
+
+-- no total of a report is above 1,024
+pub at-most : (bank : List ℕ) (m : Marks) (r : Tally) (t : Totals) → ReportDone bank m r → r ≡ Counted t → AtMost 1024 t
+unfolding ReportDone the-totals is-counted
+at-most bank m r t w e = go (report-cause (length bank) m) refl w
+  where
+    go : (n : ℕ) → report-cause (length bank) m ≡ n → ReportBy n bank m r → AtMost 1024 t
+    go zero z h =
+        let q = ap the-totals (sym e ∙ h .2) in
+        let v = subst (AtMost (blocks bank)) (sym q) (totals-le (h .0) (blocks bank)) in
+        let l = small (length bank) (first-none (size-cause (length bank)) (marks-cause m) (sym (report-is (length bank) m) ∙ z)) .0 in
+        omega (arith, v, l)
+    go (suc n) z h = absurd (subst is-counted (sym e ∙ h) tt)
 
 -- ---- lengths
 pub part-length : (bank : List ℕ) (k : ℕ) → 45 * k + 45 ≤ length bank → length (part bank k) ≡ 45

@@ -9,4 +9,4 @@ pub mod Remainder
 pub mod Inverse
 pub mod Gf256
 pub mod Steps
-pub mod Powers
+pub mod Inverses

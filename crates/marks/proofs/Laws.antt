@@ -4,14 +4,14 @@
 --   bytes-of-bytes, of-bytes-bytes    a record and its four bytes
 --   can-place-chip, can-lift-chip, can-place-card, can-lift-card    what holds where a call is not refused
 --   placed-chip-lawful, lifted-chip-lawful, placed-card-lawful, lifted-card-lawful    a call that is done leaves a lawful record
---   first-four                        a record is made of the first four bytes
+--   first-four, four-long             a record is made of the first four bytes, and has four
 --   third-refused                     a third chip mark is refused
 use Prim.Native.Nat.{ℕ, zero, suc, _≤_, _<_}
 use mathlib.Core.Path.{_≡_, refl, sym, _∙_}
 use mathlib.Core.Logic.{_⊎_, inl, inr, _≢_, ⊎-elim, by-cases}
 use mathlib.Core.Bool.{Bool, true, false, _&&_, _||_, not, false≢true, true≢false}
 use mathlib.Core.List.{List, [], _∷_}
-use lib.ListN.{getD}
+use lib.ListN.{length, getD}
 use native.Mathlib.Decide.{ℕ-discrete}
 use native.Mathlib.Omega.{arith}
 use lib.Dec.{eqb, ltb}
@@ -236,3 +236,8 @@ third-refused k p l e h m = simp (lawful-range l, lawful-two l, lt-ltb p 45 h, m
 pub first-four : (b : List ℕ) (w x y z : ℕ) → w ≡ getD b 0 0 → x ≡ getD b 1 0 → y ≡ getD b 2 0 → z ≡ getD b 3 0 → of-bytes (w ∷ x ∷ y ∷ z ∷ []) ≡ of-bytes b
 unfolding of-bytes
 first-four b w x y z p q r s = rw (p, q, r, s) refl
+
+-- and has four
+pub four-long : (k : Marks) → length (bytes k) ≡ 4
+unfolding bytes
+four-long k = refl

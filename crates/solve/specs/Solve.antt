@@ -10,9 +10,9 @@ use mathlib.Core.Path.{_≡_}
 use mathlib.Core.Bool.{Bool, true, false}
 use mathlib.Core.Logic.{_⊎_, _≢_}
 use mathlib.Core.List.{List, [], _∷_}
-use Prim.Native.Nat.{ℕ, zero, suc, _/_, _%_}
+use Prim.Native.Nat.{ℕ, zero, suc, _/_, _%_, _<_}
 use lib.Dec.{eqb}
-use lib.ListN.{getD}
+use lib.ListN.{length, getD}
 use Rattle.field.specs.Field.{_⊕_, _·_, sum}
 use Rattle.code.specs.Block.{byte, Block, block-of}
 use Rattle.code.specs.Labels.{entry, LabelSet}
@@ -58,6 +58,10 @@ delta d r = amount-if (eqb r (d .p)) (d .e) ⊕ (amount-if (eqb r (d .q)) (d .f)
 
 unfoldable pub applied : List ℕ → Change → List ℕ
 applied b d = block-of (λ r. byte b r ⊕ delta d r)
+
+-- x is added at one position
+abbrev pub Added : ℕ → ℕ → List ℕ → List ℕ → Type 0
+Added at x b b′ = (length b′ ≡ length b) × ((r : ℕ) → r < length b → byte b′ r ≡ byte b r ⊕ amount-if (eqb r at) x)
 
 -- card j takes the row sums, and no further chip is changed
 abbrev pub rows-only : List ℕ → ℕ → Change

@@ -10,7 +10,7 @@ ghost use Rattle.field.specs.Field.{_⊕_, _·_};
 ghost use Rattle.code.specs.Labels.{entry, LabelSet};
 ghost use Rattle.code.specs.Reach.{Off};
 ghost use Rattle.sums.specs.Sums.{Spread, Small};
-ghost use Rattle.solve.specs.Solve.{IsSyndrome, ReducedSums, KnownAt, chips, rows-only, Solved, amount-if, delta, applied};
+ghost use Rattle.solve.specs.Solve.{IsSyndrome, ReducedSums, KnownAt, chips, rows-only, Solved, applied, Added};
 
 // The eleven sums of a block.
 pub struct Syndrome {
@@ -188,35 +188,29 @@ pub fn solve(labels: &[u8], rows: [u8; 9], t: sums::LabelSums, j: u8, w: Places)
     solve_two(labels, rows, t, j, w.first, w.second)
 }
 
-fn amount_if(t: bool, v: u8) -> u8
-    ensures { λ r. ⌜ r ≡ amount-if t v ⌝ }
+// Adds x to the byte at a position, if there is one.
+fn add_at(block: &mut [u8], at: usize, x: u8)
+    ensures { λ _. ⌜ Added at x (now (block .entry)) (now (block .exit)) ⌝ }
 {
-    if t { v } else { 0 }
+    if at < block.len() {
+        block[at] = field::add(block[at], x);
+    }
 }
 
-// What a change adds at a position.
-pub fn delta_at(d: Change, at: usize) -> u8
-    ensures { λ r. ⌜ r ≡ delta d at ⌝ }
-{
-    let p = d.p as usize;
-    let q = d.q as usize;
-    let card = d.card as usize;
-    let rows = d.rows;
-    let i = at % 9;
-    let a = amount_if(at == p, d.e);
-    let b = amount_if(at == q, d.f);
-    let c = amount_if(at / 9 == card, rows[i]);
-    field::add(a, field::add(b, c))
-}
-
-// Makes the change in the 45 bytes that are lent.
+// Makes the change in the 45 bytes that are lent: eleven of them at most.
 pub fn apply(block: &mut [u8], d: Change)
     requires { ⌜ length (now block) ≡ 45 ⌝ }
     ensures { λ _. ⌜ now (block .exit) ≡ applied (now (block .entry)) d ⌝ }
 {
-    let mut at: usize = 0;
-    while at < 45 {
-        block[at] = field::add(block[at], delta_at(d, at));
-        at = at + 1;
+    let rows = d.rows;
+    let start = 9 * (d.card as usize);
+    let p = d.p as usize;
+    let q = d.q as usize;
+    let mut i: usize = 0;
+    while i < 9 {
+        add_at(block, start + i, rows[i]);
+        i = i + 1;
     }
+    add_at(block, p, d.e);
+    add_at(block, q, d.f);
 }

@@ -1,0 +1,204 @@
+//! The benchmark's program: the library through its C interface, plain.rs and
+//! libfec's RS(45,34), in one process on the same records and damage.
+//!
+//!   bench times             a line for each case and codec: median time
+//!   bench count CASE CODEC  each input of the case once, for callgrind
+//!   bench list              the cases, and the codecs that are linked
+//!
+//! Built by use/bench/run, with --cfg library and --cfg libfec where the two
+//! are at hand.  Each codec has the same three C functions; callgrind counts
+//! what runs inside them and nothing else.
+
+#[allow(dead_code)] // the benchmark uses a part of it
+#[path = "../rust/plain.rs"]
+mod plain;
+
+#[allow(dead_code)] // the tests use the rest
+#[path = "../rust/random.rs"]
+mod random;
+
+mod cases;
+mod codecs;
+
+use cases::{Case, Input, What, CASES, NO_MARKS};
+use codecs::{codecs, Codec};
+use random::Random;
+use std::hint::black_box;
+use std::time::Instant;
+
+const BLOCK: usize = 45;
+const RECORD: usize = 34;
+
+/// A case made ready for one codec.
+struct Ready<'a> {
+    codec: &'a Codec,
+    what: What,
+    inputs: Vec<Input>,
+    /// The damaged blocks one after the other.
+    bank: Vec<u8>,
+}
+
+fn ready<'a>(case: &Case, codec: &'a Codec) -> Ready<'a> {
+    // The seed is the case's alone, so that every codec gets the same.
+    let mut rng = Random(case.name.bytes().map(u64::from).sum());
+    let mut inputs = Vec::new();
+    let mut bank = vec![0; BLOCK * case.inputs];
+    for block in bank.chunks_exact_mut(BLOCK) {
+        let record = std::array::from_fn(|_| rng.next() as u8);
+        let (damage, marks) = (case.make)(&mut rng);
+        if case.what != What::Store {
+            // Not there: callgrind would count these stores as well.
+            codec.store(&record, block);
+        }
+        for (byte, change) in block.iter_mut().zip(damage) {
+            *byte ^= change;
+        }
+        inputs.push(Input {
+            record,
+            damage,
+            marks,
+        });
+    }
+    Ready {
+        codec,
+        what: case.what,
+        inputs,
+        bank,
+    }
+}
+
+impl Ready<'_> {
+    fn block(&self, k: usize) -> &[u8] {
+        &self.bank[BLOCK * k..BLOCK * (k + 1)]
+    }
+
+    /// Makes every call once.  The output is used again, never cleared.
+    fn once(&self, out: &mut [u8]) {
+        match self.what {
+            What::Store => {
+                for input in &self.inputs {
+                    black_box(self.codec.store(black_box(&input.record), out));
+                }
+            }
+            What::Read | What::ReadAny => {
+                for (k, input) in self.inputs.iter().enumerate() {
+                    black_box(self.codec.read(black_box(self.block(k)), &input.marks, out));
+                }
+            }
+            What::Report(_) => {
+                black_box(self.codec.report(black_box(&self.bank), &NO_MARKS));
+            }
+        }
+        black_box(out);
+    }
+
+    /// A time or count is worth nothing if the records don't come out.
+    fn check(&self) {
+        let mut out = [0; BLOCK];
+        match self.what {
+            What::Read => {
+                for (k, input) in self.inputs.iter().enumerate() {
+                    let said = self.codec.read(self.block(k), &input.marks, &mut out);
+                    assert_eq!(
+                        said & 0xFF,
+                        0,
+                        "{}: input {k} is not corrected",
+                        self.codec.name
+                    );
+                    assert_eq!(
+                        out[..RECORD],
+                        input.record,
+                        "{}: input {k}",
+                        self.codec.name
+                    );
+                    let restored: Vec<u8> = self
+                        .block(k)
+                        .iter()
+                        .zip(input.damage)
+                        .map(|(a, b)| a ^ b)
+                        .collect();
+                    assert_eq!(out[..], restored, "{}: input {k}", self.codec.name);
+                }
+            }
+            What::Report(blocks) => {
+                let code = self.codec.report(&self.bank, &NO_MARKS);
+                assert_eq!(code, (blocks as u64) << 8, "{}: report", self.codec.name);
+            }
+            What::Store | What::ReadAny => {}
+        }
+    }
+}
+
+fn takes_part(case: &Case, codec: &Codec) -> bool {
+    case.what != What::ReadAny || codec.name != "fec"
+}
+
+// ----------------------------------------------------------------------- times
+
+const ROUNDS: usize = 151;
+
+fn median(mut times: Vec<f64>) -> f64 {
+    times.sort_by(f64::total_cmp);
+    times[times.len() / 2]
+}
+
+/// The codecs take turns, so that a slow moment of the machine hits them all.
+fn times() {
+    let all = codecs();
+    for case in &CASES {
+        let mut runs: Vec<(Ready, Vec<f64>)> = all
+            .iter()
+            .filter(|codec| takes_part(case, codec))
+            .map(|codec| (ready(case, codec), Vec::new()))
+            .collect();
+        runs.iter().for_each(|(run, _)| run.check());
+        let mut out = [0; BLOCK];
+        for _ in 0..ROUNDS {
+            for (run, taken) in &mut runs {
+                let begin = Instant::now();
+                run.once(&mut out);
+                taken.push(begin.elapsed().as_nanos() as f64 / case.inputs as f64);
+            }
+        }
+        for (run, taken) in runs {
+            println!("{} {} {:.1}", case.name, run.codec.name, median(taken));
+        }
+    }
+}
+
+// ------------------------------------------------------------------------ main
+
+fn count(case: &str, codec: &str) {
+    let case = CASES.iter().find(|c| c.name == case).expect("a case");
+    let all = codecs();
+    let codec = all.iter().find(|c| c.name == codec).expect("a codec");
+    ready(case, codec).once(&mut [0; BLOCK]);
+}
+
+fn list() {
+    for case in &CASES {
+        let (call, calls) = match case.what {
+            What::Store => ("store", case.inputs),
+            What::Read | What::ReadAny => ("read", case.inputs),
+            What::Report(_) => ("report", 1),
+        };
+        for codec in codecs().iter().filter(|codec| takes_part(case, codec)) {
+            println!(
+                "{} {} {}_{} {} {}",
+                case.name, codec.name, codec.name, call, calls, case.inputs
+            );
+        }
+    }
+}
+
+fn main() {
+    #[cfg(libfec)]
+    codecs::fec::begin();
+    let words: Vec<String> = std::env::args().skip(1).collect();
+    match words.iter().map(String::as_str).collect::<Vec<_>>()[..] {
+        ["times"] => times(),
+        ["list"] => list(),
+        ["count", case, codec] => count(case, codec),
+        _ => panic!("bench times | list | count CASE CODEC"),
+    }
+}

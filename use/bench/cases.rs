@@ -1,0 +1,157 @@
+//! The benchmark's cases: seeded records, damage and marks.
+
+use crate::random::Random;
+use crate::{BLOCK, RECORD};
+
+const INPUTS: usize = 64;
+
+/// One input: a record, the damage added to its block, and the marks.
+pub struct Input {
+    pub record: [u8; RECORD],
+    pub damage: [u8; BLOCK],
+    pub marks: [u8; 4],
+}
+
+#[derive(Clone, Copy, PartialEq)]
+pub enum What {
+    Store,
+    Read,
+    /// A read whose answer is any; libfec has no such reading.
+    ReadAny,
+    /// A report over this many clean blocks; times and counts are for a block.
+    Report(usize),
+}
+
+pub struct Case {
+    pub name: &'static str,
+    pub what: What,
+    pub inputs: usize,
+    pub make: fn(&mut Random) -> ([u8; BLOCK], [u8; 4]),
+}
+
+pub const NO_MARKS: [u8; 4] = [255, 0, 255, 255];
+
+fn bad_card(rng: &mut Random, damage: &mut [u8; BLOCK], card: usize) {
+    for chip in 0..9 {
+        damage[9 * card + chip] = rng.change();
+    }
+}
+
+fn nothing(_: &mut Random) -> ([u8; BLOCK], [u8; 4]) {
+    ([0; BLOCK], NO_MARKS)
+}
+
+fn one_chip(rng: &mut Random) -> ([u8; BLOCK], [u8; 4]) {
+    let mut damage = [0; BLOCK];
+    damage[rng.below(BLOCK)] = rng.change();
+    (damage, NO_MARKS)
+}
+
+fn one_card(rng: &mut Random) -> ([u8; BLOCK], [u8; 4]) {
+    let mut damage = [0; BLOCK];
+    let card = rng.below(5);
+    bad_card(rng, &mut damage, card);
+    (damage, NO_MARKS)
+}
+
+fn marked_card_and_chip(rng: &mut Random) -> ([u8; BLOCK], [u8; 4]) {
+    let mut damage = [0; BLOCK];
+    let card = rng.below(5);
+    bad_card(rng, &mut damage, card);
+    damage[(9 * card + 9 + rng.below(36)) % BLOCK] = rng.change();
+    (damage, [card as u8, 0, 255, 255])
+}
+
+fn two_marked_chips(rng: &mut Random) -> ([u8; BLOCK], [u8; 4]) {
+    let mut damage = [0; BLOCK];
+    let first = rng.below(BLOCK);
+    let second = (first + 1 + rng.below(BLOCK - 1)) % BLOCK;
+    damage[first] = rng.change();
+    damage[second] = rng.change();
+    (damage, [255, 2, first as u8, second as u8])
+}
+
+/// Damage of every sort under every shape of lawful marks.
+fn anything(rng: &mut Random) -> ([u8; BLOCK], [u8; 4]) {
+    let (mut damage, mut marks) = two_marked_chips(rng);
+    let card = rng.below(5);
+    match rng.below(4) {
+        0 => bad_card(rng, &mut damage, card),
+        1 => damage = [0; BLOCK],
+        2 => damage = std::array::from_fn(|_| rng.next() as u8),
+        _ => {}
+    }
+    for _ in 0..rng.below(3) {
+        damage[rng.below(BLOCK)] ^= rng.change();
+    }
+    // One damage in eight fits every card.
+    if rng.below(8) == 0 {
+        damage = [0; BLOCK];
+        let at = 9 * card + rng.below(7);
+        damage[at..at + 3].copy_from_slice(&[8, 6, 1]);
+    }
+    if rng.below(2) == 0 {
+        marks[0] = card as u8;
+    }
+    let count = rng.below(3);
+    marks[1] = count as u8;
+    marks[2 + count..].fill(255);
+    (damage, marks)
+}
+
+pub const CASES: [Case; 9] = [
+    Case {
+        name: "store",
+        what: What::Store,
+        inputs: INPUTS,
+        make: nothing,
+    },
+    Case {
+        name: "read-clean",
+        what: What::Read,
+        inputs: INPUTS,
+        make: nothing,
+    },
+    Case {
+        name: "read-chip",
+        what: What::Read,
+        inputs: INPUTS,
+        make: one_chip,
+    },
+    Case {
+        name: "read-card",
+        what: What::Read,
+        inputs: INPUTS,
+        make: one_card,
+    },
+    Case {
+        name: "read-marked-card-and-chip",
+        what: What::Read,
+        inputs: INPUTS,
+        make: marked_card_and_chip,
+    },
+    Case {
+        name: "read-two-marked-chips",
+        what: What::Read,
+        inputs: INPUTS,
+        make: two_marked_chips,
+    },
+    Case {
+        name: "read-any",
+        what: What::ReadAny,
+        inputs: 512,
+        make: anything,
+    },
+    Case {
+        name: "report-256",
+        what: What::Report(256),
+        inputs: 256,
+        make: nothing,
+    },
+    Case {
+        name: "report-1024",
+        what: What::Report(1024),
+        inputs: 1024,
+        make: nothing,
+    },
+];

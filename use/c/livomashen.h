@@ -1,0 +1,167 @@
+/*
+ * livomashen.h - a memory of five cards of nine chips, corrected by proof.
+ *
+ * A record of 34 bytes is stored as a block of 45: card j (0 to 4), chip i
+ * (0 to 8) is byte 9*j + i, and that number is the chip's position.  A reading
+ * gives back the one record that fits the block within the changes that the
+ * marks allow, or refuses, since none fits or several do.
+ *
+ * Lent bytes are passed as a pointer, then a length.  Any length may be
+ * passed: a wrong one is refused by its number.  With a length of 0 the
+ * pointer is not followed.  Bytes that a call may write must not overlap any
+ * other bytes lent to the same call.  A refused call writes nothing at all.
+ *
+ * No call allocates, keeps anything between calls, or fails to return.  Calls
+ * on different bytes may run at the same time.
+ *
+ * C99 and C++.  See livomashen(3).
+ */
+#ifndef LIVOMASHEN_H
+#define LIVOMASHEN_H
+
+#include <stddef.h>
+#include <stdint.h>
+
+#ifdef __cplusplus
+extern "C" {
+#endif
+
+/* Sizes. */
+enum {
+    LIVOMASHEN_CARDS = 5,
+    LIVOMASHEN_CHIPS = 9,            /* of one card */
+    LIVOMASHEN_BLOCK = 45,           /* bytes of a block, positions of chips */
+    LIVOMASHEN_RECORD = 34,          /* bytes of a record: a block's first */
+    LIVOMASHEN_MARKS = 4,            /* bytes of a mark record */
+    LIVOMASHEN_MOST_BLOCKS = 1024,   /* blocks of the largest bank */
+    LIVOMASHEN_LARGEST_BANK = 46080  /* its bytes */
+};
+
+/* Numbers: 0, or why a call is refused.  The lowest that holds is given. */
+enum {
+    LIVOMASHEN_DONE = 0,
+    LIVOMASHEN_BLOCK_LENGTH = 1,     /* received block is not 45 bytes */
+    LIVOMASHEN_OUTPUT_LENGTH = 2,    /* output is not 45 bytes */
+    LIVOMASHEN_RECORD_LENGTH = 3,    /* record is not 34 bytes */
+    LIVOMASHEN_BANK_LENGTH = 4,      /* bank is not 45*n bytes, n 1 to 1024 */
+    LIVOMASHEN_BLOCK_NUMBER = 5,     /* block number is n or more */
+    LIVOMASHEN_MARK_RANGE = 6,       /* mark record, or mark asked for, is
+                                        outside its ranges or not 4 bytes */
+    LIVOMASHEN_MARK_TWICE = 7,       /* both chip marks equal, or the mark
+                                        asked for is already there */
+    LIVOMASHEN_MARK_LIMIT = 8,       /* third chip mark, or another card */
+    LIVOMASHEN_MARK_ABSENT = 9,      /* lifting a mark that is not there */
+    LIVOMASHEN_NONE = 10,            /* no record fits the block */
+    LIVOMASHEN_SEVERAL = 11          /* two records or more fit it */
+};
+
+/* Kinds of a corrected block. */
+enum {
+    LIVOMASHEN_CLEAN = 0,            /* no byte was changed */
+    LIVOMASHEN_IN_CHIPS = 1,         /* n bytes, in single chips */
+    LIVOMASHEN_IN_CARD = 2           /* n bytes, in a card and marked chips */
+};
+
+/* A mark record is four bytes: card, count, first chip, second chip; an unused
+ * place holds 255.  This starts one:
+ *     uint8_t marks[LIVOMASHEN_MARKS] = LIVOMASHEN_FRESH_MARKS;           */
+#define LIVOMASHEN_FRESH_MARKS { 255, 0, 255, 255 }
+
+/* ------------------------------------------------------------ the library */
+
+/* Stores a record in out as the only lawful block that begins with it.
+ * Gives 0, or 2, 3. */
+uint32_t livomashen_store(const uint8_t *rec, size_t rec_len,
+                          uint8_t *out, size_t out_len);
+
+/* Reads a block under marks; the corrected 45 bytes go into out, the record
+ * first.  Gives an answer code: 0 and a kind, or 1, 2, 6, 7, 10, 11. */
+uint32_t livomashen_read(const uint8_t *block, size_t block_len,
+                         const uint8_t *marks, size_t marks_len,
+                         uint8_t *out, size_t out_len);
+
+/* Makes every block of a bank 45 zeros.  Gives 0, or 4. */
+uint32_t livomashen_clear(uint8_t *bank, size_t bank_len);
+
+/* Stores a record as block k of a bank.  Gives 0, or 3, 4, 5. */
+uint32_t livomashen_put(uint8_t *bank, size_t bank_len, size_t k,
+                        const uint8_t *rec, size_t rec_len);
+
+/* Reads block k of a bank into out and leaves the bank as it is.  Gives an
+ * answer code: 0 and a kind, or 2, 4, 5, 6, 7, 10, 11. */
+uint32_t livomashen_get(const uint8_t *bank, size_t bank_len, size_t k,
+                        const uint8_t *marks, size_t marks_len,
+                        uint8_t *out, size_t out_len);
+
+/* Reads block k of a bank and puts the corrected bytes back.  Gives an answer
+ * code: 0 and a kind, or 4, 5, 6, 7, 10, 11. */
+uint32_t livomashen_patrol(uint8_t *bank, size_t bank_len, size_t k,
+                           const uint8_t *marks, size_t marks_len);
+
+/* Counts the blocks of a bank by their readings.  Gives a report code: 0 and
+ * the five totals, or 4, 6, 7. */
+uint64_t livomashen_report(const uint8_t *bank, size_t bank_len,
+                           const uint8_t *marks, size_t marks_len);
+
+/* Places or lifts a mark in a mark record: a chip by its position 0 to 44, a
+ * card by its number 0 to 4.  Placing gives 0, or 6, 7, 8; lifting 0, or 6, 7,
+ * 9.  Lifting the first of two chip marks moves the second down. */
+uint32_t livomashen_place_chip(uint8_t *marks, size_t marks_len,
+                               uint8_t position);
+uint32_t livomashen_lift_chip(uint8_t *marks, size_t marks_len,
+                              uint8_t position);
+uint32_t livomashen_place_card(uint8_t *marks, size_t marks_len,
+                               uint8_t card);
+uint32_t livomashen_lift_card(uint8_t *marks, size_t marks_len);
+
+/* ------------------------------------------------------- codes taken apart */
+
+/* What read, get and patrol say.  Parts that the number or kind does not use
+ * are 0. */
+typedef struct livomashen_answer {
+    uint8_t number;   /* bits 0-7: 0 if corrected, else the refusal's number */
+    uint8_t kind;     /* bits 8-15: clean, in chips or in a card */
+    uint8_t card;     /* bits 16-23: the card; with 11, one that fits */
+    uint8_t n;        /* bits 24-31: how many bytes were changed */
+} livomashen_answer;
+
+/* What report says: blocks of the bank by reading. */
+typedef struct livomashen_totals {
+    uint8_t number;   /* bits 0-7: 0 if counted, else the refusal's number */
+    uint16_t clean;   /* bits 8-18 */
+    uint16_t chips;   /* bits 19-29 */
+    uint16_t card;    /* bits 30-40 */
+    uint16_t none;    /* bits 41-51 */
+    uint16_t several; /* bits 52-62 */
+} livomashen_totals;
+
+static inline livomashen_answer livomashen_split_answer(uint32_t code)
+{
+    livomashen_answer a;
+    a.number = code & 0xFFu;
+    code >>= 8;
+    a.kind = code & 0xFFu;
+    code >>= 8;
+    a.card = code & 0xFFu;
+    code >>= 8;
+    a.n = code & 0xFFu;
+    return a;
+}
+
+static inline livomashen_totals livomashen_split_report(uint64_t code)
+{
+    livomashen_totals t;
+    t.number = code & 0xFFu;
+    t.clean = (code >> 8) & 0x7FFu;
+    t.chips = (code >> 19) & 0x7FFu;
+    t.card = (code >> 30) & 0x7FFu;
+    t.none = (code >> 41) & 0x7FFu;
+    t.several = (code >> 52) & 0x7FFu;
+    return t;
+}
+
+#ifdef __cplusplus
+}
+#endif
+
+#endif

@@ -1,0 +1,100 @@
+"""Compares plain.rs with second/reference.py on seeded cases.
+
+Usage: python3 use/rust/check_plain.py PROGRAM [--seed N] [--cases N]
+PROGRAM is plain_cases.rs, compiled.  Prints the number of cases, or the first
+case that differs and exit 1.
+"""
+
+import argparse
+import random
+import subprocess
+import sys
+from pathlib import Path
+
+sys.dont_write_bytecode = True
+sys.path.insert(0, str(Path(__file__).resolve().parents[2] / "second"))
+
+import damage             # noqa: E402
+import reference as ref   # noqa: E402
+
+FILL = 0xA5               # what plain_cases.rs fills its output with
+
+
+def word(part):
+    return part.hex() or "-"
+
+
+def any_length(rng, right):
+    """The right length nine times in ten."""
+    return right if rng.random() < 0.9 else rng.randrange(2 * right)
+
+
+def store_case(rng):
+    record = rng.randbytes(any_length(rng, ref.RECORD))
+    output = bytearray([FILL]) * any_length(rng, ref.BLOCK)
+    line = f"store {word(record)} {len(output)}"
+    answer = ref.store_into(output, record)
+    return line, [f"{answer.number} {output.hex()}"]
+
+
+def read_wanted(block, marks, length):
+    """Every answer that 01 permits: with 11, one for each card that fits."""
+    output = bytearray([FILL]) * length
+    answer = ref.read_into(output, block, marks)
+    cards = answer.cards or {answer.card}
+    return [f"{answer.number} {answer.kind} {card} {answer.n} {output.hex()}"
+            for card in cards]
+
+
+def read_case(rng, marks=None, block=None):
+    marks = damage.any_marks(rng) if marks is None else marks
+    block = damage.damaged_block(rng, marks) if block is None else block
+    if rng.random() < 0.05:
+        block = rng.randbytes(rng.randrange(91))
+    length = any_length(rng, ref.BLOCK)
+    line = f"read {word(block)} {word(marks)} {length}"
+    return line, read_wanted(block, marks, length)
+
+
+def report_case(rng):
+    marks, bank = damage.case(rng)
+    if rng.random() < 0.1:
+        bank = bank[:rng.randrange(len(bank))]
+    answer, totals = ref.report(bank, marks)
+    wanted = [answer.number, *(totals or ())]
+    return (f"report {word(bank)} {word(marks)}",
+            [" ".join(str(x) for x in wanted)])
+
+
+def cases(rng, count):
+    """Each shape of marks with each kind of damage, then any case."""
+    for _, _, marks, block in damage.every_pair(rng):
+        yield read_case(rng, marks, block)
+    for _ in range(count):
+        make = rng.choices([store_case, read_case, report_case], [3, 12, 1])[0]
+        yield make(rng)
+
+
+def main():
+    parser = argparse.ArgumentParser(description=__doc__.splitlines()[0])
+    parser.add_argument("program")
+    parser.add_argument("--seed", type=int, default=1)
+    parser.add_argument("--cases", type=int, default=6000)
+    args = parser.parse_args()
+    made = list(cases(random.Random(args.seed), args.cases))
+    given = "".join(line + "\n" for line, _ in made)
+    run = subprocess.run([args.program], input=given, capture_output=True,
+                         text=True, check=True)
+    answers = run.stdout.splitlines()
+    if len(answers) != len(made):
+        sys.exit(f"{len(made)} cases, but {len(answers)} answers")
+    for (line, wanted), got in zip(made, answers):
+        if got not in wanted:
+            sys.exit(f"seed {args.seed}: {line}\n  got    {got}\n"
+                     f"  wanted {' or '.join(wanted)}")
+    print(f"plain.rs and second/reference.py agree on {len(made)} cases, "
+          f"seed {args.seed}")
+
+
+if __name__ == "__main__":
+    main()

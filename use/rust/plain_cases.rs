@@ -1,0 +1,75 @@
+//! Runs plain.rs on cases from standard input, one a line, for check_plain.py.
+//!
+//! `store RECORD OUTLEN`, `read BLOCK MARKS OUTLEN` and `report BANK MARKS`,
+//! with bytes in hexadecimal and `-` for an empty slice.  The output starts as
+//! OUTLEN bytes 0xA5.  Prints what was said, then the output in hexadecimal.
+
+#[allow(dead_code)] // this program uses a part of it
+mod plain;
+
+use plain::Answer;
+use std::fmt::Write as _;
+use std::io::{self, BufRead, Write as _};
+
+fn bytes(word: &str) -> Vec<u8> {
+    if word == "-" {
+        return Vec::new();
+    }
+    let digit = |d: u8| (d as char).to_digit(16).expect("a hexadecimal digit") as u8;
+    word.as_bytes()
+        .chunks(2)
+        .map(|pair| 16 * digit(pair[0]) + digit(pair[1]))
+        .collect()
+}
+
+fn hex(bytes: &[u8]) -> String {
+    bytes.iter().fold(String::new(), |mut text, byte| {
+        let _ = write!(text, "{byte:02x}");
+        text
+    })
+}
+
+fn said(answer: Answer) -> String {
+    match answer {
+        Answer::Clean => "0 0 0 0".into(),
+        Answer::Chips { n } => format!("0 1 0 {n}"),
+        Answer::Card { card, n } => format!("0 2 {card} {n}"),
+        Answer::Refused(number) => format!("{number} 0 0 0"),
+        Answer::None => "10 0 0 0".into(),
+        Answer::Several { card } => format!("11 0 {card} 0"),
+    }
+}
+
+fn run(words: &[&str]) -> String {
+    let output = |length: &str| vec![0xA5; length.parse().expect("a length")];
+    match *words {
+        ["store", record, length] => {
+            let mut out = output(length);
+            let number = plain::store(&bytes(record), &mut out).err().unwrap_or(0);
+            format!("{number} {}", hex(&out))
+        }
+        ["read", block, marks, length] => {
+            let mut out = output(length);
+            let answer = plain::read(&bytes(block), &bytes(marks), &mut out);
+            format!("{} {}", said(answer), hex(&out))
+        }
+        ["report", bank, marks] => match plain::report(&bytes(bank), &bytes(marks)) {
+            Err(number) => format!("{number}"),
+            Ok(t) => format!(
+                "0 {} {} {} {} {}",
+                t.clean, t.chips, t.card, t.none, t.several
+            ),
+        },
+        _ => panic!("not a case: {words:?}"),
+    }
+}
+
+fn main() -> io::Result<()> {
+    let mut out = io::BufWriter::new(io::stdout().lock());
+    for line in io::stdin().lock().lines() {
+        let line = line?;
+        let words: Vec<&str> = line.split(' ').collect();
+        writeln!(out, "{}", run(&words))?;
+    }
+    out.flush()
+}
