@@ -9,6 +9,11 @@
 //! are at hand.  Each codec has the same three C functions; callgrind counts
 //! what runs inside them and nothing else.
 
+#[cfg(library)]
+#[allow(dead_code)] // the benchmark calls the C functions alone
+#[path = "../rust/livomashen.rs"]
+mod livomashen;
+
 #[allow(dead_code)] // the benchmark uses a part of it
 #[path = "../rust/plain.rs"]
 mod plain;

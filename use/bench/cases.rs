@@ -139,7 +139,7 @@ pub const CASES: [Case; 9] = [
     Case {
         name: "read-any",
         what: What::ReadAny,
-        inputs: 512,
+        inputs: 8192,
         make: anything,
     },
     Case {

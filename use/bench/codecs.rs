@@ -1,5 +1,7 @@
 //! The three codecs of the benchmark, each as the same three C functions.
 
+#[cfg(library)]
+use crate::livomashen::raw;
 use crate::plain;
 use std::slice::{from_raw_parts, from_raw_parts_mut};
 
@@ -34,32 +36,6 @@ impl Codec {
 
     pub fn report(&self, bank: &[u8], marks: &[u8]) -> u64 {
         unsafe { (self.report)(bank.as_ptr(), bank.len(), marks.as_ptr(), marks.len()) }
-    }
-}
-
-#[cfg(library)]
-mod library {
-    extern "C" {
-        pub fn livomashen_store(
-            rec: *const u8,
-            rec_len: usize,
-            out: *mut u8,
-            out_len: usize,
-        ) -> u32;
-        pub fn livomashen_read(
-            block: *const u8,
-            block_len: usize,
-            marks: *const u8,
-            marks_len: usize,
-            out: *mut u8,
-            out_len: usize,
-        ) -> u32;
-        pub fn livomashen_report(
-            bank: *const u8,
-            bank_len: usize,
-            marks: *const u8,
-            marks_len: usize,
-        ) -> u64;
     }
 }
 
@@ -279,9 +255,9 @@ pub fn codecs() -> Vec<Codec> {
         #[cfg(library)]
         Codec {
             name: "livomashen",
-            store: library::livomashen_store,
-            read: library::livomashen_read,
-            report: library::livomashen_report,
+            store: raw::livomashen_store,
+            read: raw::livomashen_read,
+            report: raw::livomashen_report,
         },
         Codec {
             name: "plain",

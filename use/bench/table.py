@@ -112,9 +112,10 @@ same seeded records and damage.
 
 {table}
 
-- ns: the median of 151 rounds, for one call, or one block of a report.
+- ns: the median of 151 rounds, for one call, or one block of a report. Compare
+  times within a row: from run to run the machine's speed varies.
 - instr.: instructions inside the call, by callgrind, the mean over 64 inputs
-  (512 for any damage). most: the largest of them. Those of a report are for a
+  (8,192 for any damage). most: the largest of them. Those of a report are for a
   block.
 - to reach: the most instructions that livomashen's call may take.
 - livomashen is called through its C interface. plain Rust is use/rust/plain.rs,

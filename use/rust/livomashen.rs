@@ -142,7 +142,8 @@ pub struct Totals {
     pub several: u16,
 }
 
-mod raw {
+/// The C functions themselves, as in livomashen.h.
+pub mod raw {
     unsafe extern "C" {
         pub fn livomashen_store(
             rec: *const u8,

@@ -7,7 +7,7 @@ use lib.Dec.{T, lit<}
 use Rattle.field.specs.Field.{_⊕_, product, _·_}
 use Rattle.field.proofs.Product.{times-x, rounds, mul, mul-comm, x-mul}
 use Rattle.field.proofs.Remainder.{product-is-mul}
-use Rattle.field.proofs.Inverse.{linear, square, frobenius, powers, inverse, frobenius-test, split-test, is-field, inverse-lt, mul-inverse}
+use Rattle.field.proofs.Inverse.{linear, square, frobenius, powers, inverse, frobenius-test, split-test, is-field, mul-inverse}
 use Rattle.field.proofs.IsField.{IsField}
 
 pub m-lt : 0x1D < 2 ^ 8
@@ -42,14 +42,6 @@ field = subst (IsField 8) (sym (fun-ext (λ a. fun-ext (λ b. in-rounds a b)))) 
 unfoldable pub inverse-of : ℕ → ℕ
 inverse-of x = inverse 7 0x1D x
 
-pub inverse-below : (x : ℕ) → inverse-of x < 2 ^ 8
-unfolding inverse-of
-inverse-below = inverse-lt 7 0x1D m-lt columns frobenius-passes split-passes
-
 pub inverse-is : (x : ℕ) → x < 2 ^ 8 → x ≢ 0 → x · inverse-of x ≡ 1
 unfolding inverse-of
 inverse-is x h ne = in-rounds x (inverse 7 0x1D x) ∙ mul-inverse 7 0x1D m-lt columns frobenius-passes split-passes x h ne
-
-pub inverse-zero : inverse-of 0 ≡ 0
-unfolding inverse-of inverse powers square mul rounds times-x _⊕_
-inverse-zero = refl

@@ -65,7 +65,7 @@ module _ (k m : ℕ) where
 
     pub square-mul : (a b : ℕ) → square (mul k m a b) ≡ mul k m (square a) (square b)
     unfolding square
-    square-mul a b = simp (mul-assoc′ k m hm, mul-comm k m, mul-left-comm′)
+    square-mul a b = simp (mul-assoc′ k m hm, mul-left-comm′)
 
     frobenius-add : (n : ℕ) → Additive (frobenius n)
     unfolding frobenius
@@ -157,7 +157,7 @@ module _ (k m : ℕ) where
       powers-lt zero x = one-lt
       powers-lt (suc n) x = mul-lt k m hm x (powers n (square x))
 
-      pub inverse-lt : (x : ℕ) → inverse x < 2 ^ suc k
+      inverse-lt : (x : ℕ) → inverse x < 2 ^ suc k
       unfolding inverse
       inverse-lt x = powers-lt k (square x)
 

@@ -69,3 +69,15 @@ additive-ext f g hf hg (suc n) h a =
     ∙ sym (at-scale g hg (a / 2 ^ n % 2) (2 ^ n) (bit-lt (a / 2 ^ n))))
     (additive-ext f g hf hg n (λ i l. h i (lt-trans l (lt-suc-self n))) a)
     ∙ sym (ap g (top-digit n a) ∙ hg (a / 2 ^ n % 2 * 2 ^ n) (a % 2 ^ n))
+
+-- an additive map that is below 2 ^ k at 1, 2, 4, .., 2 ^ (n - 1) is so at all numbers of n digits
+pub additive-below : (f : ℕ → ℕ) → Additive f → (k n : ℕ) → ((i : ℕ) → i < n → f (2 ^ i) < 2 ^ k) → (a : ℕ) → f (a % 2 ^ n) < 2 ^ k
+additive-below f hf k zero h a = subst (λ (x : ℕ). x < 2 ^ k) (sym (ap f (mod-one a) ∙ at-zero f hf)) (pow-pos k)
+additive-below f hf k (suc n) h a =
+    subst (λ (x : ℕ). x < 2 ^ k) (sym (ap f (top-digit n a) ∙ hf (a / 2 ^ n % 2 * 2 ^ n) (a % 2 ^ n)))
+    (add-lt k (f (a / 2 ^ n % 2 * 2 ^ n)) (f (a % 2 ^ n)) (top (a / 2 ^ n % 2) (bit-lt (a / 2 ^ n))) (additive-below f hf k n (λ i l. h i (lt-trans l (lt-suc-self n))) a))
+  where
+    top : (x : ℕ) → x < 2 → f (x * 2 ^ n) < 2 ^ k
+    top x hx = subst (λ (y : ℕ). y < 2 ^ k) (sym (at-scale f hf x (2 ^ n) hx))
+        (bit-ind (λ (x : ℕ). x * f (2 ^ n) < 2 ^ k) (subst (λ (y : ℕ). y < 2 ^ k) (sym (zero-mul (f (2 ^ n)))) (pow-pos k))
+        (subst (λ (y : ℕ). y < 2 ^ k) (sym (one-mul (f (2 ^ n)))) (h n (lt-suc-self n))) x hx)

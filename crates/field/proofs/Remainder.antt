@@ -20,7 +20,7 @@ double-lt n y h = subst (λ (x : ℕ). y * 2 < x) (sym (pow-suc 2 n)) (mul-lt-mu
 double-shr : (n y : ℕ) → y * 2 / 2 ^ suc n ≡ y / 2 ^ n
 double-shr n y = ap (λ (x : ℕ). y * 2 / x) (pow-suc 2 n) ∙ mul-div-mul-right y (2 ^ n) (omega arith)
 
-times-pow-add : (a b j : ℕ) → (a ⊕ b) * 2 ^ j ≡ (a * 2 ^ j) ⊕ (b * 2 ^ j)
+pub times-pow-add : (a b j : ℕ) → (a ⊕ b) * 2 ^ j ≡ (a * 2 ^ j) ⊕ (b * 2 ^ j)
 times-pow-add a b zero = native.Mathlib.Nat.mul-one (a ⊕ b) ∙ sym (ap₂ (λ (x y : ℕ). x ⊕ y) (native.Mathlib.Nat.mul-one a) (native.Mathlib.Nat.mul-one b))
 times-pow-add a b (suc j) =
     shift (a ⊕ b) ∙ ap (λ (x : ℕ). x * 2) (times-pow-add a b j) ∙ double-add (a * 2 ^ j) (b * 2 ^ j)
@@ -28,6 +28,24 @@ times-pow-add a b (suc j) =
   where
     shift : (x : ℕ) → x * 2 ^ suc j ≡ x * 2 ^ j * 2
     shift x = ap (λ (y : ℕ). x * y) (pow-suc 2 j) ∙ sym (mul-assoc x (2 ^ j) 2)
+
+-- c where digit s is set
+abbrev where-set : ℕ → ℕ → ℕ → ℕ
+where-set s c y = y / 2 ^ s % 2 * c
+
+where-set-add : (s c : ℕ) → Additive (where-set s c)
+where-set-add s c a b =
+    ap (λ (x : ℕ). x % 2 * c) (add-shr a b s) ∙ ap (λ (x : ℕ). x * c) (add-mod (a / 2 ^ s) (b / 2 ^ s) 1)
+    ∙ add-scale (a / 2 ^ s % 2) (b / 2 ^ s % 2) c (bit-lt (a / 2 ^ s)) (bit-lt (b / 2 ^ s))
+
+-- the remainder by any modulus is additive
+pub remainder-add : (k modulus n : ℕ) → Additive (remainder k modulus n)
+unfolding remainder
+remainder-add k p zero a b = refl
+remainder-add k p (suc n) a b =
+    ap (λ (x : ℕ). remainder k p n ((a ⊕ b) ⊕ x)) (where-set-add (suc k + n) (p * 2 ^ n) a b)
+    ∙ ap (remainder k p n) (swap a b (where-set (suc k + n) (p * 2 ^ n) a) (where-set (suc k + n) (p * 2 ^ n) b))
+    ∙ remainder-add k p n (a ⊕ where-set (suc k + n) (p * 2 ^ n) a) (b ⊕ where-set (suc k + n) (p * 2 ^ n) b)
 
 module _ (k m : ℕ) (hm : m < 2 ^ suc k) where
   -- the modulus
@@ -37,19 +55,6 @@ module _ (k m : ℕ) (hm : m < 2 ^ suc k) where
   -- one step of the remainder
   step : ℕ → ℕ → ℕ
   step j y = y ⊕ (y / 2 ^ (suc k + j) % 2 * (P * 2 ^ j))
-
-  step-add : (j : ℕ) → Additive (step j)
-  unfolding step
-  step-add j a b =
-      ap (λ (x : ℕ). (a ⊕ b) ⊕ (x * (P * 2 ^ j)))
-      (ap (λ (x : ℕ). x % 2) (add-shr a b (suc k + j)) ∙ add-mod (a / 2 ^ (suc k + j)) (b / 2 ^ (suc k + j)) 1)
-      ∙ ap (λ (x : ℕ). (a ⊕ b) ⊕ x) (add-scale (a / 2 ^ (suc k + j) % 2) (b / 2 ^ (suc k + j) % 2) (P * 2 ^ j) (bit-lt (a / 2 ^ (suc k + j))) (bit-lt (b / 2 ^ (suc k + j))))
-      ∙ swap a b (a / 2 ^ (suc k + j) % 2 * (P * 2 ^ j)) (b / 2 ^ (suc k + j) % 2 * (P * 2 ^ j))
-
-  remainder-add : (j : ℕ) → Additive (remainder k P j)
-  unfolding remainder step
-  remainder-add zero a b = refl
-  remainder-add (suc j) a b = ap (remainder k P j) (step-add j a b) ∙ remainder-add j (step j a) (step j b)
 
   -- a step takes digit k + 1 + j away
   step-lt : (j y : ℕ) → y < 2 ^ suc (suc k + j) → step j y < 2 ^ (suc k + j)
@@ -133,16 +138,16 @@ module _ (k m : ℕ) (hm : m < 2 ^ suc k) where
   by-rounds : (J n i a b d : ℕ) → a < 2 ^ suc k → n + i + d ≡ suc J
       → rounds k m n (xs i a) b ≡ remainder k P J (polynomial-product n (a * 2 ^ i) b)
   unfolding rounds polynomial-product xs
-  by-rounds J zero i a b d h e = sym (at-zero (remainder k P J) (remainder-add J))
+  by-rounds J zero i a b d h e = sym (at-zero (remainder k P J) (remainder-add k P J))
   by-rounds J (suc n) i a b d h e =
       let e₁ : J ≡ (n + d) + i = omega arith in
       let e₂ : n + suc i + d ≡ suc J = omega arith in
       ap₂ (λ (x y : ℕ). x ⊕ y)
       (ap (λ (x : ℕ). b % 2 * x) (sym (ap (λ (x : ℕ). remainder k P x (a * 2 ^ i)) e₁ ∙ remainder-more (n + d) i (a * 2 ^ i) (shl-lt (suc k) i h) ∙ remainder-power i a h))
-      ∙ sym (at-scale (remainder k P J) (remainder-add J) (b % 2) (a * 2 ^ i) (bit-lt b)))
+      ∙ sym (at-scale (remainder k P J) (remainder-add k P J) (b % 2) (a * 2 ^ i) (bit-lt b)))
       (by-rounds J n (suc i) a (b / 2) d h e₂
       ∙ ap (λ (x : ℕ). remainder k P J (polynomial-product n x (b / 2))) (ap (λ (x : ℕ). a * x) (pow-suc 2 i) ∙ sym (mul-assoc a (2 ^ i) 2)))
-      ∙ sym (remainder-add J (b % 2 * (a * 2 ^ i)) (polynomial-product n (a * 2 ^ i * 2) (b / 2)))
+      ∙ sym (remainder-add k P J (b % 2 * (a * 2 ^ i)) (polynomial-product n (a * 2 ^ i * 2) (b / 2)))
 
   pub product-is-mul : (a b : ℕ) → product k P a b ≡ mul k m a b
   unfolding product mul xs

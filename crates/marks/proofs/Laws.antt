@@ -239,5 +239,4 @@ first-four b w x y z p q r s = rw (p, q, r, s) refl
 
 -- and has four
 pub four-long : (k : Marks) → length (bytes k) ≡ 4
-unfolding bytes
 four-long k = refl

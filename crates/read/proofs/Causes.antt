@@ -2,12 +2,10 @@
 use mathlib.Core.Logic.{_≢_}
 use mathlib.Core.Path.{_≡_, refl, sym, ap, ap₂, _∙_, subst}
 use mathlib.Core.Bool.{Bool, true, false, not}
-use mathlib.Core.List.{List, [], _++_, append-nil}
+use mathlib.Core.List.{List, []}
 use Prim.Native.Nat.{ℕ, zero, suc}
-use native.Mathlib.Omega.{arith}
 use lib.Dec.{T, eqb}
-use lib.ListN.{length, take, drop, drop-of-length-le}
-use lib.Seq.{take-length}
+use lib.ListN.{length, take}
 use borrow.Author.Tests.{eq-eqb, ne-eqb}
 use Rattle.refusal.specs.Refusal.{if}
 use Rattle.code.specs.Labels.{built-in}
@@ -52,10 +50,6 @@ left (Corrected kind) new old e = absurd (subst T e tt)
 left Nothing new old e = refl
 left (Several j) new old e = refl
 left (Refused n) new old e = refl
-
-pub copied : (b out a : List ℕ) → length b ≡ 45 → length out ≡ 45 → a ≡ take (length b) b ++ drop (length b) out → a ≡ b
-copied b out a l o e =
-    e ∙ ap₂ (λ (u v : List ℕ). u ++ v) (take-length b) (drop-of-length-le out {i = length b} (omega arith)) ∙ append-nil b
 
 -- ---- the record part
 pub part-short : (out : List ℕ) (r : Reading) → length out ≢ 45 → [] ≡ record-in out r

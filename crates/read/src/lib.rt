@@ -28,6 +28,21 @@ pub fn correct(block: &mut [u8], a: search::Answer)
     }
 }
 
+// Copies a block, a card at a time by way of nine bytes: they cannot be those that are written, so that they are moved in one piece.
+fn copy_block(from: &[u8], to: &mut [u8])
+    requires { ⌜ (length (now from) ≡ 45) × (length (now to) ≡ 45) ⌝ }
+    ensures { λ _. ⌜ now (to .exit) ≡ now (from .entry) ⌝ }
+{
+    let mut at: usize = 0;
+    while at < 45 {
+        let end = at + 9;
+        let mut nine = [0u8; 9];
+        bytes::copy(&from[at..end], &mut nine);
+        bytes::copy(&nine, &mut to[at..end]);
+        at = end;
+    }
+}
+
 // Writes a corrected block into the output.
 pub fn deliver(block: &[u8], a: search::Answer, out: &mut [u8])
     requires { ⌜ (length (now block) ≡ 45) × (length (now out) ≡ 45) ⌝ }
@@ -36,7 +51,7 @@ pub fn deliver(block: &[u8], a: search::Answer, out: &mut [u8])
     let r = a.reading;
     let change = a.change;
     if was_corrected(r) {
-        bytes::copy(block, out);
+        copy_block(block, out);
         solve::apply(out, change);
     }
 }

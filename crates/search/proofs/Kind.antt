@@ -8,7 +8,7 @@ use native.Mathlib.Decide.{decLt}
 use native.Mathlib.Omega.{arith}
 use lib.Dec.{T, eqb, leb, ltb}
 use lib.ListN.{length, getD}
-use borrow.Author.Tests.{eqb-true, eqb-false, leb-true, leb-false, ltb-true, ltb-false}
+use borrow.Author.Tests.{eqb-true, eqb-false, leb-true, leb-false, ltb-true, ltb-false, not-true, not-false}
 use Rattle.field.proofs.Tests.{same}
 use Rattle.code.specs.Block.{byte}
 use Rattle.code.specs.Reach.{In, Off}
@@ -24,14 +24,6 @@ use Rattle.solve.specs.declared.Change.{Change}
 use Rattle.search.specs.Count.{tally, nonzero, nonzero-at, places, stray, strays, chip-test}
 use Rattle.search.proofs.Tally.{clash, tally-none, tally-one, tally-some, tally-two}
 use Rattle.search.proofs.Changes.{zero-not, nonzero-is, nonzero-ne, same-at, other-at, on-card, further, moves-places}
-
-not-true : (t : Bool) → not t ≡ true → t ≡ false
-not-true true e = sym e
-not-true false e = refl
-
-not-false : (t : Bool) → not t ≡ false → t ≡ true
-not-false true e = refl
-not-false false e = sym e
 
 and-true : (s t : Bool) → s && t ≡ true → (s ≡ true) × (t ≡ true)
 and-true true t e = (refl, e)

@@ -1,11 +1,9 @@
--- The search while card m is marked: at most one lawful block is allowed, so that the first that is found is the one.
-use mathlib.Core.Logic.{_≢_, _⊎_, inl, inr}
+-- The search while card m is marked: at most one lawful block is allowed, so that one that is found is the one.
 use mathlib.Core.Path.{_≡_, refl, sym, ap, _∙_, subst}
 use mathlib.Core.Bool.{true, false}
 use mathlib.Core.List.{List}
 use Prim.Native.Nat.{ℕ, zero, suc, _+_, _<_, _≤_}
 use native.Mathlib.Omega.{arith}
-use Rattle.field.proofs.Tests.{same}
 use Rattle.code.specs.Block.{byte, changes}
 use Rattle.code.specs.Reach.{Off, keep, Reached}
 use Rattle.code.proofs.Few.{keep-off}
@@ -16,37 +14,34 @@ use Rattle.marks.specs.declared.Marks.{Marks}
 use Rattle.reading.specs.Allowed.{AllowedUnder, CardChanged}
 use Rattle.reading.specs.Reading.{S, ChipsUnder, CardUnder, KindOf, Reads}
 use Rattle.reading.specs.declared.Kind.{Kind}
-use Rattle.reading.specs.declared.Reading.{Reading}
 use Rattle.reading.specs.declared.Reading.the-variants.{Corrected, Nothing}
 use Rattle.reading.proofs.Searches.{covered, covers, few-at}
 use Rattle.reading.proofs.Facts.{card-one}
-use Rattle.solve.specs.Solve.{applied, Within, Solved}
+use Rattle.sums.specs.declared.LabelSums.{LabelSums}
+use Rattle.solve.specs.Solve.{KnownAt, applied, Within, Solved}
 use Rattle.solve.specs.declared.Candidate.{Candidate}
 use Rattle.solve.specs.declared.Syndrome.{Syndrome}
 use Rattle.search.specs.Count.{tally, nonzero-at, places}
-use Rattle.search.specs.Search.{Known, searches, chips-for, chips-kind, marked-card-kind}
+use Rattle.search.specs.Search.{Known, searches, chips-for, Beside, chips-kind, marked-card-kind}
 use Rattle.search.proofs.Changes.{changes-places}
 use Rattle.search.proofs.Kind.{unmoved, moved, card-changed, card-kept}
-use Rattle.search.proofs.Cards.{from-keep, to-keep}
+use Rattle.search.proofs.Cards.{from-keep, to-keep, solved-off}
 
 pub card-below : (k : Marks) (m : ℕ) → Lawful k → k .card ≡ Card m → m < 5
 card-below k m l e = subst CardInRange e (l .card)
 
-pub search-off : (k : Marks) → Lawful k → (m i : ℕ) → i < searches (k .count) → Off m (keep m (chips-for k m i))
+search-off : (k : Marks) → Lawful k → (m i : ℕ) → i < searches (k .count) → Off m (keep m (chips-for k m i))
 search-off k lk m i hi = keep-off m (chips-for k m i) (few-at (Card m) k lk i hi)
-
--- search i reaches nothing
-abbrev pub Empty : List ℕ → Marks → ℕ → List ℕ → ℕ → Type 0
-Empty ls k m b i = (x : List ℕ) → Reached ls m (chips-for k m i) b x → ⊥
 
 module _ (ls words b : List ℕ) (s : Syndrome) (known : Known ls words b s) (k : Marks) (lk : Lawful k) (m : ℕ) (card : k .card ≡ Card m) where
   hm : m < 5
   hm = card-below k m lk card
 
-  pub none-answer : (x : List ℕ) → ((i : ℕ) → i < searches (k .count) → Empty ls k m b i) → Reads ls k b Nothing x
-  none-answer x never y h =
-      let w = covered (Card m) k b y (subst (λ (c : CardMark). AllowedUnder c k b y) card (h .allowed)) in
-      never (w .0) (w .1) y (record { block = h .block; lawful = h .lawful; only = w .2 })
+  -- an allowed lawful block is what some search reaches
+  some-search : (x : List ℕ) → S ls k b x → (i : ℕ) × (i < searches (k .count)) × Reached ls m (chips-for k m i) b x
+  some-search x h =
+      let w = covered (Card m) k b x (subst (λ (c : CardMark). AllowedUnder c k b x) card (h .allowed)) in
+      (w .0, w .1, record { block = h .block; lawful = h .lawful; only = w .2 })
 
   module _ (i : ℕ) (hi : i < searches (k .count)) where
     module _ (c : Candidate) (v : Solved ls m (keep m (chips-for k m i)) b c) where
@@ -103,22 +98,24 @@ module _ (ls words b : List ℕ) (s : Syndrome) (known : Known ls words b s) (k 
             subst (λ (x : CardMark). CardUnder x m k b (applied b (c .change))) (sym card) (refl, changed own e),
           )
 
-      pub found-answer : c .fits ≡ true → Reads ls k b (Corrected (marked-card-kind m (tally 9 (nonzero-at (c .change .rows))) (places (c .change)))) (applied b (c .change))
-      found-answer e = ((member e, λ y h. card-one ls (known .set) k lk b m hm card y (applied b (c .change)) h (member e)), kind-is)
+      found : c .fits ≡ true → Reads ls k b (Corrected (marked-card-kind m (tally 9 (nonzero-at (c .change .rows))) (places (c .change)))) (applied b (c .change))
+      found e = ((member e, λ y h. card-one ls (known .set) k lk b m hm card y (applied b (c .change)) h (member e)), kind-is)
 
-pub empty-at : (ls : List ℕ) (k : Marks) (m : ℕ) (b : List ℕ) (i : ℕ) (c : Candidate) → Solved ls m (keep m (chips-for k m i)) b c → c .fits ≡ false → Empty ls k m b i
-empty-at ls k m b i c v e x h = v .none e x (to-keep ls m (chips-for k m i) b x h)
+  -- the search that serves for all
+  module _ (z : List ℕ) (t : LabelSums) (at : KnownAt ls b z m t) (ps : List ℕ) (w : Beside ls k m t ps) (c : Candidate) (v : Solved ls m ps b c) where
+    there : Solved ls m (keep m (chips-for k m (w .which))) b c
+    there = solved-off ls m ps (keep m (chips-for k m (w .which))) b c (w .chips) v
 
--- none of the searches so far, and none of one more
-pub empty-more : (P : ℕ → Type 0) (i : ℕ) → ((h : ℕ) → h < i → P h) → P i → (h : ℕ) → h < i + 1 → P h
-empty-more P i h p j l = go (same j i)
-  where
-    go : (j ≡ i) ⊎ (j ≢ i) → P j
-    go (inl e) = subst P (sym e) p
-    go (inr e) = h j (omega arith)
+    pub found-answer : c .fits ≡ true → Reads ls k b (Corrected (marked-card-kind m (tally 9 (nonzero-at (c .change .rows))) (places (c .change)))) (applied b (c .change))
+    found-answer = found (w .which) (w .below) c there
+
+    pub none-answer : c .fits ≡ false → (x : List ℕ) → Reads ls k b Nothing x
+    none-answer e x y h =
+        let r = some-search y h in
+        there .none e y (to-keep ls m (chips-for k m (w .which)) b y (w .serves b z at (r .0) (r .1) y (r .2)))
+
+pub beside-off : (k : Marks) → Lawful k → (ls : List ℕ) (m : ℕ) (t : LabelSums) (ps : List ℕ) → Beside ls k m t ps → Off m ps
+beside-off k lk ls m t ps w = subst (Off m) (sym (w .chips)) (search-off k lk m (w .which) (w .below))
 
 pub kind-as : (ls : List ℕ) (k : Marks) (b x : List ℕ) (a c : Kind) → a ≡ c → Reads ls k b (Corrected c) x → Reads ls k b (Corrected a) x
 kind-as ls k b x a c e h = subst (λ (z : Kind). Reads ls k b (Corrected z) x) (sym e) h
-
-pub reading-as : (ls : List ℕ) (k : Marks) (b x : List ℕ) (a c : Reading) → a ≡ c → Reads ls k b c x → Reads ls k b a x
-reading-as ls k b x a c e h = subst (λ (z : Reading). Reads ls k b z x) (sym e) h

@@ -3,19 +3,22 @@ use mathlib.Core.Logic.{_≢_}
 use mathlib.Core.Path.{_≡_, refl, sym, ap, ap₂, _∙_, subst}
 use mathlib.Core.Bool.{Bool, true, false, _&&_, not}
 use mathlib.Core.List.{List, [], _∷_}
-use Prim.Native.Nat.{ℕ, zero, suc, _+_, _*_, _/_}
+use Prim.Native.Nat.{ℕ, zero, suc, _+_, _*_, _/_, _<_}
+use native.Mathlib.Omega.{arith}
 use lib.Dec.{eqb}
 use lib.ListN.{getD}
 use borrow.Author.Tests.{eq-eqb, ne-eqb}
-use Rattle.code.specs.Reach.{keep, unless}
-use Rattle.marks.specs.Marks.{chips-of, is-marked}
+use Rattle.code.specs.Reach.{keep, unless, Reached}
+use Rattle.marks.specs.Marks.{chips-of, chips, is-marked}
 use Rattle.marks.specs.declared.Marks.{Marks}
+use Rattle.sums.specs.declared.LabelSums.{LabelSums}
+use Rattle.solve.specs.Solve.{KnownAt, Serves}
 use Rattle.solve.specs.declared.Change.{Change}
 use Rattle.reading.specs.declared.Kind.{Kind}
 use Rattle.reading.specs.declared.Kind.the-variants.{Chips, OneCard}
 use Rattle.reading.proofs.Searches.{tries-by, further}
 use Rattle.search.specs.Count.{one-if, nonzero, nonzero-at, stray}
-use Rattle.search.specs.Search.{chips-kind, marked-card-kind}
+use Rattle.search.specs.Search.{chips-for, Beside, chips-kind, marked-card-kind}
 use Rattle.search.proofs.Changes.{zero-not, nonzero-is}
 
 pub on : (p j : ℕ) → p / 9 ≡ j → [] ≡ keep j (p ∷ [])
@@ -53,19 +56,42 @@ module _ (n a s j : ℕ) (n₀ : n ≢ 0) (n₁ : n ≢ 1) where
       ap₂ (λ (t u : Bool). unless t a (unless u s [])) (sym (ne-eqb (a / 9) j p)) (sym (ne-eqb (s / 9) j q)) ∙ ap (keep j) (two n a s n₀ n₁)
 
 -- ---- under a card mark
-pub by-chip : (n a s i m : ℕ) (l : List ℕ) → n ≡ 0 → l ≡ keep m (i ∷ []) → l ≡ keep m (further n a s i)
-by-chip n a s i m l e h = h ∙ ap (λ (z : ℕ). keep m (further z a s i)) (sym e)
+-- with no chip marked there is a search for each chip; else one, with the marked chips
+searches-none : (n : ℕ) → n ≡ 0 → 45 ≡ tries-by n
+searches-none n e = sym (ap tries-by e)
 
-pub by-marks : (n a s i m : ℕ) (l : List ℕ) → n ≢ 0 → l ≡ keep m (chips-of n a s) → l ≡ keep m (further n a s i)
-by-marks zero a s i m l ne e = absurd (ne refl)
-by-marks (suc n) a s i m l ne e = e
+searches-some : (n : ℕ) → n ≢ 0 → 1 ≡ tries-by n
+searches-some zero ne = absurd (ne refl)
+searches-some (suc n) ne = refl
 
-pub searches-0 : (u : ℕ) → u ≡ 0 → 45 ≡ tries-by u
-searches-0 u e = sym (ap tries-by e)
+further-some : (n a s i : ℕ) → n ≢ 0 → further n a s i ≡ chips-of n a s
+further-some zero a s i ne = absurd (ne refl)
+further-some (suc n) a s i ne = refl
 
-pub searches-1 : (u : ℕ) → u ≢ 0 → 1 ≡ tries-by u
-searches-1 zero ne = absurd (ne refl)
-searches-1 (suc u) ne = refl
+module _ (ls : List ℕ) (k : Marks) (m : ℕ) (t : LabelSums) (ps : List ℕ) where
+  pub beside-chip : (p : ℕ) → k .count ≡ 0 → p < 45 → ps ≡ keep m (p ∷ []) → ((b z : List ℕ) → KnownAt ls b z m t → Serves ls m b p) → Beside ls k m t ps
+  beside-chip p e hp q h = record {
+    which = p;
+    below = subst (λ (n : ℕ). p < n) (searches-none (k .count) e) hp;
+    chips = q ∙ ap (keep m) (sym (one p));
+    serves = λ b z known i hi x r.
+        subst (λ (l : List ℕ). Reached ls m l b x) (sym (one p))
+        (h b z known i (subst (λ (n : ℕ). i < n) (sym (searches-none (k .count) e)) hi) x (subst (λ (l : List ℕ). Reached ls m l b x) (one i) r));
+  }
+    where
+      one : (i : ℕ) → chips-for k m i ≡ i ∷ []
+      one i = ap (λ (n : ℕ). further n (k .first) (k .second) i) e
+
+  pub beside-marks : k .count ≢ 0 → ps ≡ keep m (chips k) → Beside ls k m t ps
+  beside-marks ne q = record {
+    which = 0;
+    below = subst (λ (n : ℕ). 0 < n) (searches-some (k .count) ne) (omega arith);
+    chips = q ∙ ap (keep m) (sym (all 0));
+    serves = λ b z known i hi x r. subst (λ (l : List ℕ). Reached ls m l b x) (all i ∙ sym (all 0)) r;
+  }
+    where
+      all : (i : ℕ) → chips-for k m i ≡ chips k
+      all i = further-some (k .count) (k .first) (k .second) i ne
 
 -- ---- kinds
 pub some-chips : (n : ℕ) → n ≢ 0 → Chips n ≡ chips-kind n

@@ -2,6 +2,7 @@
 --
 --   Known        the sums of the block b, and labels with 01's property
 --   Reaching     the change d reaches a lawful block, and lies in its card and in marked chips off it
+--   Beside       while card m is marked: the chips of the search that serves for all
 --   Looked       what is held once the cards below j have been looked at
 use mathlib.Core.Path.{_≡_}
 use mathlib.Core.Bool.{Bool, true, false}
@@ -17,7 +18,8 @@ use Rattle.code.specs.Reach.{keep, Reached}
 use Rattle.marks.specs.Marks.{chips}
 use Rattle.marks.specs.declared.Marks.{Marks}
 use Rattle.sums.specs.Sums.{Spread}
-use Rattle.solve.specs.Solve.{IsSyndrome, applied, Within}
+use Rattle.sums.specs.declared.LabelSums.{LabelSums}
+use Rattle.solve.specs.Solve.{IsSyndrome, KnownAt, applied, Within}
 use Rattle.solve.specs.declared.Syndrome.{Syndrome}
 use Rattle.solve.specs.declared.Change.{Change}
 use Rattle.reading.specs.Allowed.{ChipKind}
@@ -75,6 +77,14 @@ searches u = tries-by u
 
 abbrev pub chips-for : Marks → ℕ → ℕ → List ℕ
 chips-for k m i = further (k .count) (k .first) (k .second) i
+
+-- ps are the chips off card m of a search that reaches whatever another one reaches
+pub record Beside (labels : List ℕ) (k : Marks) (m : ℕ) (t : LabelSums) (ps : List ℕ) : Type 0 where
+  pub which : ℕ
+  pub below : which < searches (k .count)
+  pub chips : ps ≡ keep m (chips-for k m which)
+  pub serves : (b z : List ℕ) → KnownAt labels b z m t → (i : ℕ) → i < searches (k .count) → (x : List ℕ)
+      → Reached labels m (chips-for k m i) b x → Reached labels m (chips-for k m which) b x
 
 -- what is held once a block that is not of the chip kind joins what was held
 abbrev pub joined-found : Found → Found

@@ -17,7 +17,7 @@ ghost use Rattle.solve.specs.Solve.{chips as chips-in, applied};
 ghost use Rattle.solve.specs.declared.Syndrome.{Syndrome};
 ghost use Rattle.reading.specs.Reading.{Reads};
 ghost use Rattle.search.specs.Count.{one-if, tally, nonzero, nonzero-at, places, stray, strays, chip-test};
-ghost use Rattle.search.specs.Search.{Known, all-zero, Looked, finished, joined-found, joined-change, chips-kind, marked-card-kind, searches, chips-for};
+ghost use Rattle.search.specs.Search.{Known, all-zero, Looked, finished, joined-found, joined-change, Beside, chips-kind, marked-card-kind};
 
 // A reading, and the change that it stands for.
 pub struct Answer {
@@ -287,23 +287,16 @@ fn over_cards(labels: &[u8], words: &[u64], s: solve::Syndrome, k: marks::Marks)
 }
 
 // ---- card m marked
-// How many searches there are: one for each chip that may be the further one, or one with the marked chips.
-fn count_searches(u: u8) -> u8
-    ensures { λ r. ⌜ r ≡ searches u ⌝ }
-{
-    if u == 0 {
-        return 45;
-    }
-    1
-}
-
-// The chips of search i that are off card m: chip i, or the marked ones.
-fn chips_of_search(k: marks::Marks, m: u8, i: u8) -> solve::Places
-    ensures { λ r. ⌜ chips-in r ≡ keep m (chips-for k m i) ⌝ }
+// The chips to search beside card m: the marked ones, or with none marked the only further chip that can be wrong. Those on card m
+// itself are left out.
+fn chips_beside(labels: &[u8], t: sums::LabelSums, k: marks::Marks, m: u8) -> solve::Places
+    requires { ⌜ (length (now labels) ≡ 45) × (m < 5) ⌝ }
+    ensures { λ r. ⌜ Beside (now (labels .entry)) k m t (chips-in r) ⌝ }
 {
     let u = k.count;
     if u == 0 {
-        return chip_off(i, m);
+        let p = solve::further_chip(labels, t, m);
+        return chip_off(p, m);
     }
     chips_off(k, m)
 }
@@ -320,32 +313,26 @@ fn kind_under(d: solve::Change, m: u8) -> reading::Kind
     reading::Kind::OneCard(m, n)
 }
 
-// With card m marked: at most one lawful block is allowed, so that the first found is the one.
+// With card m marked: at most one lawful block is allowed.
 fn under_card(labels: &[u8], words: &[u64], s: solve::Syndrome, k: marks::Marks, m: u8) -> Answer
     requires { ⌜ (length (now labels) ≡ 45) × (length (now words) ≡ 45) × Small (now words) × Lawful k × (k .card ≡ Card m) ⌝ }
     ensures { λ r. ⌜ ((b : List ℕ) → Known (now (labels .entry)) (now (words .entry)) b s → Reads (now (labels .entry)) k b (r .reading) (applied b (r .change))) ⌝ }
 {
     let rows = s.rows;
     let t = solve::reduced(words, s, m);
-    let n = count_searches(k.count);
-    let start = solve::rows_only(rows, m);
-    let mut answer = Answer {
-        reading: reading::Reading::Nothing,
-        change: start,
-    };
-    'chips: for i in 0u8..n {
-        let w = chips_of_search(k, m, i);
-        let c = solve::solve(labels, rows, t, m, w);
-        if c.fits {
-            let change = c.change;
-            answer = Answer {
-                reading: reading::Reading::Corrected(kind_under(change, m)),
-                change,
-            };
-            break 'chips;
-        }
+    let w = chips_beside(labels, t, k, m);
+    let c = solve::solve(labels, rows, t, m, w);
+    let change = c.change;
+    if !c.fits {
+        return Answer {
+            reading: reading::Reading::Nothing,
+            change,
+        };
     }
-    answer
+    Answer {
+        reading: reading::Reading::Corrected(kind_under(change, m)),
+        change,
+    }
 }
 
 // ---- the reading

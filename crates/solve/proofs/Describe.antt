@@ -150,12 +150,17 @@ module _ (ls b z : List ℕ) (j : ℕ) (hj : j < 5) (t : LabelSums) (known : Kno
     c-cell : c ≡ cell (byte ls) j p
     c-cell = c-is ∙ sym (cell-is ls (known .set) j hj b (known .block) p)
 
-    pub unsolved-one : (d : Change) → d ≡ rows-only z j → Off j (p ∷ []) → t .squared ≢ c · t .once → Solved ls j (p ∷ []) b (record { fits = false; change = d })
+    -- what one chip reaches needs sums that are a multiple of its column
+    pub fits-one : Off j (p ∷ []) → (x : List ℕ) → Reached ls j (p ∷ []) b x → t .squared ≡ c · t .once
     unfolding fits
+    fits-one o x h =
+        squared-is ∙ eqb→eq (red (byte ls) 1 j (byte b)) (cell (byte ls) j p · red (byte ls) 0 j (byte b)) (candidate ls (known .set) j hj b (known .block) (p ∷ []) o x h .0)
+        ∙ sym (ap₂ (λ (x y : ℕ). x · y) c-cell once-is)
+
+    pub unsolved-one : (d : Change) → d ≡ rows-only z j → Off j (p ∷ []) → t .squared ≢ c · t .once → Solved ls j (p ∷ []) b (record { fits = false; change = d })
     unsolved-one d q o ne = record {
       found = λ e. absurd (subst T (sym e) tt);
-      none = λ e x h. ne (squared-is ∙ eqb→eq (red (byte ls) 1 j (byte b)) (cell (byte ls) j p · red (byte ls) 0 j (byte b)) (candidate ls (known .set) j hj b (known .block) (p ∷ []) o x h .0)
-          ∙ sym (ap₂ (λ (x y : ℕ). x · y) c-cell once-is));
+      none = λ e x h. ne (fits-one o x h);
       within = subst (Within j (p ∷ [])) (sym q) (record { card = refl; first = inl refl; second = inl refl });
     }
 

@@ -5,6 +5,7 @@
 --   KnownAt       what a search of card j knows of b
 --   applied b d   the block b with the change d made
 --   Within        d changes card j and chips of ps only
+--   Serves        beside card j no chip reaches more than chip p does
 --   Solved        r says whether card j and the chips ps reach a lawful block from b, and by which change
 use mathlib.Core.Path.{_≡_}
 use mathlib.Core.Bool.{Bool, true, false}
@@ -63,6 +64,10 @@ applied b d = block-of (λ r. byte b r ⊕ delta d r)
 abbrev pub Added : ℕ → ℕ → List ℕ → List ℕ → Type 0
 Added at x b b′ = (length b′ ≡ length b) × ((r : ℕ) → r < length b → byte b′ r ≡ byte b r ⊕ amount-if (eqb r at) x)
 
+-- rows are added to the nine bytes of card j
+abbrev pub Filled : ℕ → List ℕ → List ℕ → List ℕ → Type 0
+Filled j z b b′ = (length b′ ≡ length b) × ((r : ℕ) → r < length b → byte b′ r ≡ byte b r ⊕ amount-if (eqb (r / 9) j) (getD z (r % 9) 0))
+
 -- card j takes the row sums, and no further chip is changed
 abbrev pub rows-only : List ℕ → ℕ → Change
 rows-only z j = record { card = j; rows = z; p = 0; e = 0; q = 0; f = 0 }
@@ -71,6 +76,10 @@ pub record Within (j : ℕ) (ps : List ℕ) (d : Change) : Type 0 where
   pub card : d .card ≡ j
   pub first : (d .e ≡ 0) ⊎ In (d .p) ps
   pub second : (d .f ≡ 0) ⊎ (In (d .q) ps × (d .q ≢ d .p))
+
+-- whatever lawful block card j and one chip reach, card j and chip p reach
+abbrev pub Serves : List ℕ → ℕ → List ℕ → ℕ → Type 0
+Serves labels j b p = (i : ℕ) → i < 45 → (x : List ℕ) → Reached labels j (i ∷ []) b x → Reached labels j (p ∷ []) b x
 
 pub record Solved (labels : List ℕ) (j : ℕ) (ps b : List ℕ) (r : Candidate) : Type 0 where
   pub found : r .fits ≡ true → Reached labels j ps b (applied b (r .change))

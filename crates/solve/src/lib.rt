@@ -10,7 +10,7 @@ ghost use Rattle.field.specs.Field.{_⊕_, _·_};
 ghost use Rattle.code.specs.Labels.{entry, LabelSet};
 ghost use Rattle.code.specs.Reach.{Off};
 ghost use Rattle.sums.specs.Sums.{Spread, Small};
-ghost use Rattle.solve.specs.Solve.{IsSyndrome, ReducedSums, KnownAt, chips, rows-only, Solved, applied, Added};
+ghost use Rattle.solve.specs.Solve.{IsSyndrome, ReducedSums, KnownAt, chips, rows-only, Solved, Serves, applied, Added, Filled};
 
 // The eleven sums of a block.
 pub struct Syndrome {
@@ -188,6 +188,23 @@ pub fn solve(labels: &[u8], rows: [u8; 9], t: sums::LabelSums, j: u8, w: Places)
     solve_two(labels, rows, t, j, w.first, w.second)
 }
 
+// The only further chip that can be wrong beside card j: the one whose column the reduced sums are a multiple of. Where there is none, a
+// chip of card j itself.
+pub fn further_chip(labels: &[u8], t: sums::LabelSums, j: u8) -> u8
+    requires { ⌜ (length (now labels) ≡ 45) × (j < 5) ⌝ }
+    ensures { λ r. ⌜ (r < 45) × ((b z : List ℕ) → KnownAt (now (labels .entry)) b z j t → Serves (now (labels .entry)) j b r) ⌝ }
+{
+    let wanted = divide(t.squared, t.once);
+    let mut chip = 9 * j;
+    'chips: for p in 0u8..45 {
+        if entry_at(labels, j, p) == wanted {
+            chip = p;
+            break 'chips;
+        }
+    }
+    chip
+}
+
 // Adds x to the byte at a position, if there is one.
 fn add_at(block: &mut [u8], at: usize, x: u8)
     ensures { λ _. ⌜ Added at x (now (block .entry)) (now (block .exit)) ⌝ }
@@ -197,20 +214,31 @@ fn add_at(block: &mut [u8], at: usize, x: u8)
     }
 }
 
+// Adds the rows to card j, if there is one.
+fn add_rows(block: &mut [u8], j: u8, rows: [u8; 9])
+    requires { ⌜ length (now block) ≡ 45 ⌝ }
+    ensures { λ _. ⌜ Filled j rows (now (block .entry)) (now (block .exit)) ⌝ }
+{
+    if 4 < j {
+        return;
+    }
+    let start = 9 * (j as usize);
+    let mut i: usize = 0;
+    while i < 9 {
+        block[start + i] = field::add(block[start + i], rows[i]);
+        i = i + 1;
+    }
+}
+
 // Makes the change in the 45 bytes that are lent: eleven of them at most.
 pub fn apply(block: &mut [u8], d: Change)
     requires { ⌜ length (now block) ≡ 45 ⌝ }
     ensures { λ _. ⌜ now (block .exit) ≡ applied (now (block .entry)) d ⌝ }
 {
     let rows = d.rows;
-    let start = 9 * (d.card as usize);
     let p = d.p as usize;
     let q = d.q as usize;
-    let mut i: usize = 0;
-    while i < 9 {
-        add_at(block, start + i, rows[i]);
-        i = i + 1;
-    }
+    add_rows(block, d.card, rows);
     add_at(block, p, d.e);
     add_at(block, q, d.f);
 }

@@ -1,16 +1,29 @@
 -- A map made of shifts, masks and sums is additive, so that it is known by its values at the powers of 2.
 use mathlib.Core.Path.{_≡_, refl, sym, ap, ap₂, _∙_, subst}
 use Prim.Native.Nat.{ℕ, zero, suc, _+_, _*_, _/_, _%_, _^_, _<_, min}
-use native.Mathlib.Nat.{mod-eq-of-lt}
+use native.Mathlib.Nat.{mod-eq-of-lt, mod-lt}
 use lib.Arith.{bin-ind}
-use lib.Bits.{bitAnd, bitXor, differ, and-step, xor-step, xor-shr, xor-mod, and-shr, and-mod}
-use lib.Dec.{T, eqb, eqb→eq}
+use lib.Bits.{bitAnd, bitXor, differ, and-step, xor-step, xor-shr, xor-mod, and-shr, and-mod, and-mask}
+use lib.Dec.{T, eqb, eqb→eq, ltb, ltb→lt}
+use lib.Pow.{pow-pos}
 use Rattle.field.specs.Field.{_⊕_, polynomial-product, remainder, product}
 use Rattle.field.proofs.Tests.{every, every-at}
-use Rattle.field.proofs.Xor.{sums}
-use Rattle.field.proofs.Linear.{bit-lt, bit-ind, Additive, additive-ext}
-use Rattle.sums.specs.Steps.{at-point, low, part, reduced}
-use Rattle.sums.proofs.Points.{at-point-add, at-point-below}
+use Rattle.field.proofs.Xor.{sums, add-shr, add-mod}
+use Rattle.field.proofs.Remainder.{times-pow-add, remainder-add}
+use Rattle.field.proofs.Linear.{bit-lt, bit-ind, Additive, additive-ext, additive-below}
+use Rattle.sums.specs.Steps.{at-point, reduced}
+use Rattle.sums.proofs.Points.{at-point-add}
+
+-- the digits of v in the mask m; of v shifted down by s
+unfoldable pub low : ℕ → ℕ → ℕ
+low m v = bitAnd v m
+
+unfoldable pub part : ℕ → ℕ → ℕ → ℕ
+part s m v = bitAnd (v / 2 ^ s) m
+
+-- v shifted up by s in 64 digits
+unfoldable pub up : ℕ → ℕ → ℕ
+up s v = v * 2 ^ s % 2 ^ 64
 
 digit : (x y z : ℕ) → x < 2 → y < 2 → z < 2 → min (bitXor x y) z ≡ differ (bitAnd x z) (bitAnd y z)
 digit x y z hx hy hz =
@@ -44,75 +57,128 @@ part-add s m a b = ap (λ (x : ℕ). bitAnd x m) (xor-shr a b s) ∙ raw-and (a 
 after : (f g : ℕ → ℕ) → Additive f → Additive g → Additive (λ a. f (g a))
 after f g hf hg a b = ap f (hg a b) ∙ hf (g a) (g b)
 
--- ---- the maps of the code
+up-add : (s : ℕ) → Additive (up s)
+unfolding up
+up-add s a b = ap (λ (x : ℕ). x % 2 ^ 64) (times-pow-add a b s) ∙ add-mod (a * 2 ^ s) (b * 2 ^ s) 64
+
+-- the test at the n powers of 2, of two additive maps
+agree : (f g : ℕ → ℕ) → Additive f → Additive g → (n : ℕ) → T (every (λ i. eqb (f (2 ^ i)) (g (2 ^ i))) n) → (u : ℕ) → u < 2 ^ n → f u ≡ g u
+agree f g hf hg n test u h =
+    let e : u ≡ u % 2 ^ n = sym (mod-eq-of-lt h) in
+    ap f e ∙ additive-ext f g hf hg n (λ i l. eqb→eq (f (2 ^ i)) (g (2 ^ i)) (every-at (λ i. eqb (f (2 ^ i)) (g (2 ^ i))) n test i l)) u ∙ ap g (sym e)
+
+-- ---- the reduction
+-- how often the modulus goes into h times x ^ 8: it goes into x ^ 8 1 + x ^ -4 + x ^ -5 + x ^ -6 + x ^ -10 + x ^ -13 + .. times
+unfoldable pub quotient : ℕ → ℕ
+quotient h = h ⊕ (h / 2 ^ 4) ⊕ (h / 2 ^ 5) ⊕ (h / 2 ^ 6) ⊕ (h / 2 ^ 10) ⊕ (h / 2 ^ 13)
+
+-- v less q times the modulus x ^ 8 + x ^ 4 + x ^ 3 + x ^ 2 + 1, its eight low digits
+unfoldable pub less : ℕ → ℕ → ℕ
+less q v = low 0xff (v ⊕ q ⊕ up 2 q ⊕ up 3 q ⊕ up 4 q)
+
+quotient-add : Additive quotient
+unfolding quotient
+quotient-add a b = simp (add-shr, sums)
+
+abbrev pub by-quotient : ℕ → ℕ
+by-quotient v = less (quotient (v / 2 ^ 8)) v
+
+by-quotient-add : Additive by-quotient
+unfolding less
+by-quotient-add a b = simp (low-add, up-add, quotient-add, add-shr, sums)
+
 reduced-add : Additive reduced
 unfolding reduced
-reduced-add a b = simp (low-add, part-add, sums)
+reduced-add = remainder-add 7 0x11D 14
 
+quotient-test : T (every (λ i. eqb (by-quotient (2 ^ i)) (reduced (2 ^ i))) 22)
+unfolding low up quotient less reduced remainder _⊕_
+quotient-test = tt
+
+pub by-quotient-is : (v : ℕ) → v < 2 ^ 22 → by-quotient v ≡ reduced v
+by-quotient-is = agree by-quotient reduced by-quotient-add reduced-add 22 quotient-test
+
+-- eight digits fit a byte
+low-below : (v : ℕ) → low 0xff v < 2 ^ 8
+unfolding low
+low-below v = subst (λ (x : ℕ). x < 2 ^ 8) (sym (and-mask v 8)) (mod-lt v (pow-pos 8))
+
+pub by-quotient-below : (v : ℕ) → by-quotient v < 2 ^ 8
+unfolding less
+by-quotient-below v = let q : ℕ = quotient (v / 2 ^ 8) in low-below (v ⊕ q ⊕ up 2 q ⊕ up 3 q ⊕ up 4 q)
+
+-- ---- the folds
 abbrev pub pair : ℕ → ℕ → ℕ → ℕ → ℕ
 pair m s n u = low m u ⊕ part s n u
 
 pair-add : (m s n : ℕ) → Additive (pair m s n)
 pair-add m s n a b = simp (low-add, part-add, sums)
 
+thrice-add : (f g h : ℕ → ℕ) → Additive f → Additive g → Additive h → Additive (λ a. f (g (h a)))
+thrice-add f g h hf hg hh = after f (λ a. g (h a)) hf (after g h hg hh)
+
 -- neighbours added, the upper one times x; then pairs, times x ^ 2; then fours, times x ^ 4
+abbrev ones : ℕ → ℕ
+ones = pair 0x00ff00ff00ff00ff 7 0x01fe01fe01fe01fe
+
+abbrev twos : ℕ → ℕ
+twos = pair 0x0000ffff0000ffff 14 0x0003fffc0003fffc
+
+abbrev fours : ℕ → ℕ
+fours = pair 0xffff 28 0xffff0
+
 unfoldable pub folded : ℕ → ℕ
-folded u = pair 0xffff 28 0xffff0 (pair 0x0000ffff0000ffff 14 0x0003fffc0003fffc (pair 0x00ff00ff00ff00ff 7 0x01fe01fe01fe01fe u))
-
--- the same times x ^ 2, x ^ 4 and x ^ 8
-unfoldable pub folded2 : ℕ → ℕ
-folded2 u = pair 0xffffff 24 0xffffff00 (pair 0x0000ffff0000ffff 12 0x000ffff0000ffff0 (pair 0x00ff00ff00ff00ff 6 0x03fc03fc03fc03fc u))
-
--- x ^ 16 = x ^ 6 + x ^ 3 + x ^ 2
-unfoldable pub lowered : ℕ → ℕ
-lowered v = low 0xffff v ⊕ part 10 0x3fc0 v ⊕ part 13 0x7f8 v ⊕ part 14 0x3fc v
-
-lowered-add : Additive lowered
-unfolding lowered
-lowered-add a b = simp (low-add, part-add, sums)
+folded u = fours (twos (ones u))
 
 folded-add : Additive folded
 unfolding folded
-folded-add =
-    after (pair 0xffff 28 0xffff0) (λ u. pair 0x0000ffff0000ffff 14 0x0003fffc0003fffc (pair 0x00ff00ff00ff00ff 7 0x01fe01fe01fe01fe u)) (pair-add 0xffff 28 0xffff0)
-    (after (pair 0x0000ffff0000ffff 14 0x0003fffc0003fffc) (pair 0x00ff00ff00ff00ff 7 0x01fe01fe01fe01fe) (pair-add 0x0000ffff0000ffff 14 0x0003fffc0003fffc) (pair-add 0x00ff00ff00ff00ff 7 0x01fe01fe01fe01fe))
+folded-add = thrice-add fours twos ones (pair-add _ _ _) (pair-add _ _ _) (pair-add _ _ _)
+
+-- the same times x ^ 2, x ^ 4 and x ^ 8
+abbrev ones2 : ℕ → ℕ
+ones2 = pair 0x00ff00ff00ff00ff 6 0x03fc03fc03fc03fc
+
+abbrev twos2 : ℕ → ℕ
+twos2 = pair 0x0000ffff0000ffff 12 0x000ffff0000ffff0
+
+abbrev fours2 : ℕ → ℕ
+fours2 = pair 0xffffff 24 0xffffff00
+
+unfoldable pub folded2 : ℕ → ℕ
+folded2 u = fours2 (twos2 (ones2 u))
 
 folded2-add : Additive folded2
 unfolding folded2
-folded2-add =
-    after (pair 0xffffff 24 0xffffff00) (λ u. pair 0x0000ffff0000ffff 12 0x000ffff0000ffff0 (pair 0x00ff00ff00ff00ff 6 0x03fc03fc03fc03fc u)) (pair-add 0xffffff 24 0xffffff00)
-    (after (pair 0x0000ffff0000ffff 12 0x000ffff0000ffff0) (pair 0x00ff00ff00ff00ff 6 0x03fc03fc03fc03fc) (pair-add 0x0000ffff0000ffff 12 0x000ffff0000ffff0) (pair-add 0x00ff00ff00ff00ff 6 0x03fc03fc03fc03fc))
+folded2-add = thrice-add fours2 twos2 ones2 (pair-add _ _ _) (pair-add _ _ _) (pair-add _ _ _)
 
--- a test at the 64 powers of 2
-first-test : T (every (λ i. eqb (reduced (reduced (folded (2 ^ i)))) (at-point 2 8 (2 ^ i))) 64)
-unfolding low part reduced folded at-point product remainder polynomial-product _⊕_
+-- what a fold gives has degree 21 at most, and reduced it is the bytes' polynomial at a point
+module _ (fold : ℕ → ℕ) (add : Additive fold) where
+  below : T (every (λ i. ltb (fold (2 ^ i)) (2 ^ 22)) 64) → (u : ℕ) → u < 2 ^ 64 → fold u < 2 ^ 22
+  below test u h =
+      subst (λ (x : ℕ). fold x < 2 ^ 22) (mod-eq-of-lt h)
+      (additive-below fold add 22 64 (λ i l. ltb→lt (fold (2 ^ i)) (2 ^ 22) (every-at (λ i. ltb (fold (2 ^ i)) (2 ^ 22)) 64 test i l)) u)
+
+  at : (c : ℕ) → T (every (λ i. eqb (reduced (fold (2 ^ i))) (at-point c 8 (2 ^ i))) 64) → (u : ℕ) → u < 2 ^ 64 → reduced (fold u) ≡ at-point c 8 u
+  at c = agree (λ u. reduced (fold u)) (at-point c 8) (after reduced fold reduced-add add) (at-point-add c 8) 64
+
+pub folded-below : (u : ℕ) → u < 2 ^ 64 → folded u < 2 ^ 22
+unfolding low part folded _⊕_
+folded-below = below folded folded-add tt
+
+pub folded2-below : (u : ℕ) → u < 2 ^ 64 → folded2 u < 2 ^ 22
+unfolding low part folded2 _⊕_
+folded2-below = below folded2 folded2-add tt
+
+first-test : T (every (λ i. eqb (reduced (folded (2 ^ i))) (at-point 2 8 (2 ^ i))) 64)
+unfolding low part folded reduced at-point product remainder polynomial-product _⊕_
 first-test = tt
 
-second-test : T (every (λ i. eqb (reduced (reduced (lowered (folded2 (2 ^ i))))) (at-point 4 8 (2 ^ i))) 64)
-unfolding low part reduced folded2 lowered at-point product remainder polynomial-product _⊕_
+second-test : T (every (λ i. eqb (reduced (folded2 (2 ^ i))) (at-point 4 8 (2 ^ i))) 64)
+unfolding low part folded2 reduced at-point product remainder polynomial-product _⊕_
 second-test = tt
 
-pub first-is : (u : ℕ) → u < 2 ^ 64 → reduced (reduced (folded u)) ≡ at-point 2 8 u
-first-is u h =
-    let e : u ≡ u % 2 ^ 64 = sym (mod-eq-of-lt h) in
-    ap (λ (x : ℕ). reduced (reduced (folded x))) e
-    ∙ additive-ext (λ u. reduced (reduced (folded u))) (at-point 2 8)
-    (after reduced (λ u. reduced (folded u)) reduced-add (after reduced folded reduced-add folded-add)) (at-point-add 2 8) 64
-    (λ i l. eqb→eq _ _ (every-at (λ i. eqb (reduced (reduced (folded (2 ^ i)))) (at-point 2 8 (2 ^ i))) 64 first-test i l)) u
-    ∙ ap (at-point 2 8) (sym e)
+pub first-is : (u : ℕ) → u < 2 ^ 64 → reduced (folded u) ≡ at-point 2 8 u
+first-is = at folded folded-add 2 first-test
 
-pub second-is : (u : ℕ) → u < 2 ^ 64 → reduced (reduced (lowered (folded2 u))) ≡ at-point 4 8 u
-second-is u h =
-    let e : u ≡ u % 2 ^ 64 = sym (mod-eq-of-lt h) in
-    ap (λ (x : ℕ). reduced (reduced (lowered (folded2 x)))) e
-    ∙ additive-ext (λ u. reduced (reduced (lowered (folded2 u)))) (at-point 4 8)
-    (after reduced (λ u. reduced (lowered (folded2 u))) reduced-add
-    (after reduced (λ u. lowered (folded2 u)) reduced-add (after lowered folded2 lowered-add folded2-add))) (at-point-add 4 8) 64
-    (λ i l. eqb→eq _ _ (every-at (λ i. eqb (reduced (reduced (lowered (folded2 (2 ^ i))))) (at-point 4 8 (2 ^ i))) 64 second-test i l)) u
-    ∙ ap (at-point 4 8) (sym e)
-
-pub first-lt : (u : ℕ) → u < 2 ^ 64 → reduced (reduced (folded u)) < 2 ^ 8
-first-lt u h = subst (λ (x : ℕ). x < 2 ^ 8) (sym (first-is u h)) (at-point-below 2 8 u)
-
-pub second-lt : (u : ℕ) → u < 2 ^ 64 → reduced (reduced (lowered (folded2 u))) < 2 ^ 8
-second-lt u h = subst (λ (x : ℕ). x < 2 ^ 8) (sym (second-is u h)) (at-point-below 4 8 u)
+pub second-is : (u : ℕ) → u < 2 ^ 64 → reduced (folded2 u) ≡ at-point 4 8 u
+second-is = at folded2 folded2-add 4 second-test

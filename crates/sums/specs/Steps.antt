@@ -1,9 +1,8 @@
 -- What the private steps of the label sums compute.
 use mathlib.Core.List.{List}
 use Prim.Native.Nat.{ℕ, zero, suc, _*_, _/_, _%_, _^_}
-use lib.Bits.{bitAnd}
 use lib.ListN.{getD}
-use Rattle.field.specs.Field.{_⊕_, _·_, sum}
+use Rattle.field.specs.Field.{_⊕_, _·_, sum, remainder}
 
 -- the sum of byte times word
 unfoldable pub gathered : ℕ → List ℕ → List ℕ → ℕ
@@ -14,13 +13,6 @@ unfoldable pub at-point : ℕ → ℕ → ℕ → ℕ
 at-point c zero u = 0
 at-point c (suc n) u = (u % 2 ^ 8) ⊕ (c · at-point c n (u / 2 ^ 8))
 
--- the digits of v in the mask m; of v shifted down by s
-unfoldable pub low : ℕ → ℕ → ℕ
-low m v = bitAnd v m
-
-unfoldable pub part : ℕ → ℕ → ℕ → ℕ
-part s m v = bitAnd (v / 2 ^ s) m
-
--- the digits from 8 up taken down by x ^ 8 = x ^ 4 + x ^ 3 + x ^ 2 + 1
+-- the remainder of a polynomial of degree 21 at most by the field's modulus
 unfoldable pub reduced : ℕ → ℕ
-reduced v = low 0xff v ⊕ part 8 0xff v ⊕ part 6 0x3fc v ⊕ part 5 0x7f8 v ⊕ part 4 0xff0 v
+reduced v = remainder 7 0x11D 14 v

@@ -5,7 +5,7 @@
 // polynomial, at x for the labels and at x squared for their squares.
 ghost use mathlib.Core.Path.{_≡_};
 ghost use mathlib.Core.List.{List};
-ghost use Prim.Native.Nat.{ℕ, _<_, _*_};
+ghost use Prim.Native.Nat.{ℕ, _<_, _^_};
 ghost use lib.ListN.{length};
 ghost use Rattle.code.specs.Labels.{built-in};
 ghost use Rattle.field.specs.Field.{sum};
@@ -94,11 +94,15 @@ fn gather(bytes: &[u8], words: &[u64]) -> u64
     u
 }
 
-// A polynomial of degree 15 at most, its digits from 8 up taken down by x ^ 8 = x ^ 4 + x ^ 3 + x ^ 2 + 1.
-fn reduce(v: u64) -> u64
+// The remainder of a polynomial of degree 21 at most: q times the modulus x ^ 8 + x ^ 4 + x ^ 3 + x ^ 2 + 1 is taken off. The modulus goes into
+// x ^ 8 this often: 1 + x ^ -4 + x ^ -5 + x ^ -6 + x ^ -10 + x ^ -13 + .., and q is that times the digits from 8 up.
+fn reduce(v: u64) -> u8
+    requires { ⌜ v < 2 ^ 22 ⌝ }
     ensures { λ r. ⌜ r ≡ reduced v ⌝ }
 {
-    (v & 0xff) ^ ((v >> 8) & 0xff) ^ ((v >> 6) & 0x3fc) ^ ((v >> 5) & 0x7f8) ^ ((v >> 4) & 0xff0)
+    let h = v >> 8;
+    let q = h ^ (h >> 4) ^ (h >> 5) ^ (h >> 6) ^ (h >> 10) ^ (h >> 13);
+    ((v ^ q ^ (q << 2) ^ (q << 3) ^ (q << 4)) & 0xff) as u8
 }
 
 // The bytes' polynomial at x: neighbours are added, the upper one shifted by 1, then pairs by 2, then fours by 4.
@@ -108,7 +112,7 @@ fn at_x(u: u64) -> u8
     let a = (u & 0x00ff00ff00ff00ff) ^ ((u >> 7) & 0x01fe01fe01fe01fe);
     let b = (a & 0x0000ffff0000ffff) ^ ((a >> 14) & 0x0003fffc0003fffc);
     let c = (b & 0xffff) ^ ((b >> 28) & 0xffff0);
-    reduce(reduce(c)) as u8
+    reduce(c)
 }
 
 // The same at x squared, with the shifts twice as far.
@@ -118,8 +122,7 @@ fn at_x_squared(u: u64) -> u8
     let a = (u & 0x00ff00ff00ff00ff) ^ ((u >> 6) & 0x03fc03fc03fc03fc);
     let b = (a & 0x0000ffff0000ffff) ^ ((a >> 12) & 0x000ffff0000ffff0);
     let c = (b & 0xffffff) ^ ((b >> 24) & 0xffffff00);
-    let d = (c & 0xffff) ^ ((c >> 10) & 0x3fc0) ^ ((c >> 13) & 0x7f8) ^ ((c >> 14) & 0x3fc);
-    reduce(reduce(d)) as u8
+    reduce(c)
 }
 
 // The two label sums of as many bytes as there are words.

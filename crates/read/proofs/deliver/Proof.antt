@@ -3,7 +3,7 @@ use mathlib.Core.Path.{_∙_, sym, ap}
 use mathlib.Core.List.{List}
 use Prim.Native.Nat.{ℕ}
 use Rattle.solve.specs.Solve.{applied}
-use Rattle.read.proofs.Causes.{written, left, copied}
+use Rattle.read.proofs.Causes.{written, left}
 use borrow.Author.Needs.{needs}
 use Rattle.read.proofs.deliver.Statement.{statement}
 use Rattle.read.proofs.deliver.Tie as tie
@@ -11,8 +11,8 @@ use Rattle.read.proofs.deliver.Tie as tie
 was-corrected-requires : tie.Need-was-corrected-requires
 was-corrected-requires c κs = search needs
 
-copy-requires : tie.Need-copy-requires
-copy-requires c κs = search needs
+copy-block-requires : tie.Need-copy-block-requires
+copy-block-requires c κs = search needs
 
 apply-requires : tie.Need-apply-requires
 apply-requires c κs = search needs
@@ -26,7 +26,7 @@ returns c =
     let p = a .before .before .before .before in
     let w = p .before .before .before in
     let s = w .before .before .before .before in
-    a .apply .ensures ∙ ap (λ (l : List ℕ). applied l (s .args .a .change)) (copied _ (s .args .out .now) _ (s .pre .0) (s .pre .1) (p .copy .ensures .1))
+    a .apply .ensures ∙ ap (λ (l : List ℕ). applied l (s .args .a .change)) (p .copy-block .ensures)
     ∙ written (s .args .a .reading) _ _ (sym (w .was-corrected .ensures) ∙ p .before .before .if1 .taken)
 
 returns-2 : tie.Need-returns-2
@@ -35,4 +35,4 @@ returns-2 c = let w = c .before in left (w .before .before .before .before .args
 pub deliver-spec : {M : Type 1} → statement M
 deliver-spec =
     tie.close
-    (tie.spec was-corrected-requires copy-requires apply-requires same-length returns returns-2)
+    (tie.spec was-corrected-requires copy-block-requires apply-requires same-length returns returns-2)

@@ -1,13 +1,16 @@
 -- `sums::reduce` meets its contract.
-use mathlib.Core.Path.{refl}
 use Rattle.field.specs.Field.{_⊕_}
-use Rattle.sums.specs.Steps.{low, part, reduced}
+use Rattle.sums.proofs.Fold.{low, up, quotient, less, by-quotient-is, by-quotient-below}
 use Rattle.sums.proofs.reduce.Statement.{statement}
 use Rattle.sums.proofs.reduce.Tie as tie
 
+cast-result : tie.Need-cast-result
+unfolding low up quotient less _⊕_
+cast-result c = record { fits = by-quotient-below (c .args .v) }
+
 returns : tie.Need-returns
-unfolding low part reduced _⊕_
-returns c = refl
+unfolding low up quotient less _⊕_
+returns c = by-quotient-is (c .args .v) (c .pre)
 
 pub reduce-spec : {M : Type 1} → statement M
-reduce-spec = tie.close (tie.spec returns)
+reduce-spec = tie.close (tie.spec cast-result returns)
