@@ -27,7 +27,7 @@ use Rattle.reading.proofs.Searches.{covered}
 use Rattle.reading.proofs.Facts.{chip-one, apart}
 use Rattle.solve.specs.Solve.{applied, Within, Solved, KnownAt, IsSyndrome, ReducedSums}
 use Rattle.sums.specs.Sums.{Spread}
-use Rattle.sums.specs.declared.LabelSums.{LabelSums}
+use Rattle.solve.specs.declared.LabelSums.{LabelSums}
 use Rattle.solve.specs.declared.Candidate.{Candidate}
 use Rattle.solve.specs.declared.Change.{Change}
 use Rattle.solve.specs.declared.Syndrome.{Syndrome}

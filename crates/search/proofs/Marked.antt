@@ -17,7 +17,7 @@ use Rattle.reading.specs.declared.Kind.{Kind}
 use Rattle.reading.specs.declared.Reading.the-variants.{Corrected, Nothing}
 use Rattle.reading.proofs.Searches.{covered, covers, few-at}
 use Rattle.reading.proofs.Facts.{card-one}
-use Rattle.sums.specs.declared.LabelSums.{LabelSums}
+use Rattle.solve.specs.declared.LabelSums.{LabelSums}
 use Rattle.solve.specs.Solve.{KnownAt, applied, Within, Solved}
 use Rattle.solve.specs.declared.Candidate.{Candidate}
 use Rattle.solve.specs.declared.Syndrome.{Syndrome}

@@ -11,7 +11,7 @@ use borrow.Author.Tests.{eq-eqb, ne-eqb}
 use Rattle.code.specs.Reach.{keep, unless, Reached}
 use Rattle.marks.specs.Marks.{chips-of, chips, is-marked}
 use Rattle.marks.specs.declared.Marks.{Marks}
-use Rattle.sums.specs.declared.LabelSums.{LabelSums}
+use Rattle.solve.specs.declared.LabelSums.{LabelSums}
 use Rattle.solve.specs.Solve.{KnownAt, Serves}
 use Rattle.solve.specs.declared.Change.{Change}
 use Rattle.reading.specs.declared.Kind.{Kind}

@@ -18,7 +18,7 @@ use Rattle.code.specs.Reach.{keep, Reached}
 use Rattle.marks.specs.Marks.{chips}
 use Rattle.marks.specs.declared.Marks.{Marks}
 use Rattle.sums.specs.Sums.{Spread}
-use Rattle.sums.specs.declared.LabelSums.{LabelSums}
+use Rattle.solve.specs.declared.LabelSums.{LabelSums}
 use Rattle.solve.specs.Solve.{IsSyndrome, KnownAt, applied, Within}
 use Rattle.solve.specs.declared.Syndrome.{Syndrome}
 use Rattle.solve.specs.declared.Change.{Change}

@@ -289,7 +289,7 @@ fn over_cards(labels: &[u8], words: &[u64], s: solve::Syndrome, k: marks::Marks)
 // ---- card m marked
 // The chips to search beside card m: the marked ones, or with none marked the only further chip that can be wrong. Those on card m
 // itself are left out.
-fn chips_beside(labels: &[u8], t: sums::LabelSums, k: marks::Marks, m: u8) -> solve::Places
+fn chips_beside(labels: &[u8], t: solve::LabelSums, k: marks::Marks, m: u8) -> solve::Places
     requires { ⌜ (length (now labels) ≡ 45) × (m < 5) ⌝ }
     ensures { λ r. ⌜ Beside (now (labels .entry)) k m t (chips-in r) ⌝ }
 {

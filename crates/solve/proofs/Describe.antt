@@ -22,7 +22,7 @@ use Rattle.field.proofs.Gf256.{field}
 use Rattle.code.proofs.Solve.{quot, quot-only, first, second, nonzero}
 use Rattle.code.proofs.Reach.{fits, mended, closed, candidate, reached, same-block, block-of-at, block-of-length, cell-is, entry-below, entry-nonzero, entries-differ}
 use Rattle.sums.specs.Sums.{RowSums}
-use Rattle.sums.specs.declared.LabelSums.{LabelSums}
+use Rattle.solve.specs.declared.LabelSums.{LabelSums}
 use Rattle.solve.specs.Solve.{ReducedSums, KnownAt, rows-only, amount-if, delta, applied, Within, Solved}
 use Rattle.solve.specs.declared.Change.{Change}
 use Rattle.solve.specs.declared.Candidate.{Candidate}

@@ -18,7 +18,7 @@ use Rattle.code.specs.Reach.{In, Off, Reached}
 use Rattle.code.proofs.Few.{widen}
 use Rattle.code.proofs.Solve.{quot-only}
 use Rattle.code.proofs.Reach.{candidate, cell-is, entry-below}
-use Rattle.sums.specs.declared.LabelSums.{LabelSums}
+use Rattle.solve.specs.declared.LabelSums.{LabelSums}
 use Rattle.solve.specs.Solve.{KnownAt, rows-only, applied, Serves}
 use Rattle.solve.proofs.Describe.{solved-none, fits-one}
 

@@ -12,8 +12,8 @@ use Rattle.code.specs.Block.{byte, position}
 use Rattle.code.specs.Labels.{entry}
 use Rattle.code.proofs.Distance as distance
 use Rattle.code.proofs.Change.{row, cell, red}
-use Rattle.sums.specs.Sums.{RowSums, label-sum, square-sum, spread-of, Spread, Small}
-use Rattle.sums.specs.declared.LabelSums.{LabelSums}
+use Rattle.sums.specs.Sums.{RowSums, label-sum, square-sum, spread-of, Spread, Small, at-point, Gathered}
+use Rattle.solve.specs.declared.LabelSums.{LabelSums}
 use Rattle.solve.specs.Solve.{IsSyndrome, ReducedSums}
 use Rattle.solve.specs.declared.Syndrome.{Syndrome}
 
@@ -66,19 +66,13 @@ module _ (labels b : List ℕ) (s : Syndrome) (known : IsSyndrome labels b s) (b
       ∙ sum-ext 45 (λ p. (cell (byte labels) j p · cell (byte labels) j p) · byte b p) (λ p. (entry labels j p · entry labels j p) · byte b p)
       (λ p l. ap (λ (a : ℕ). (a · a) · byte b p) (cell-is p))
 
--- the sums of as many bytes as there are rows
-pub nine : (n : ℕ) (ls rows : List ℕ) (t : LabelSums) → n ≡ 9 → (t .once ≡ label-sum n ls rows) × (t .squared ≡ square-sum n ls rows)
-    → (t .once ≡ label-sum 9 ls rows) × (t .squared ≡ square-sum 9 ls rows)
-nine n ls rows t e h = subst (λ (m : ℕ). (t .once ≡ label-sum m ls rows) × (t .squared ≡ square-sum m ls rows)) e h
-
--- what the code adds to the label sums
+-- what the code adds to the label sums, from the word that gathers the rows by card j's labels
 pub reduced-sums : (words : List ℕ) (j : ℕ) → length words ≡ 45 → j < 5 → (labels b : List ℕ) → ((p : ℕ) → byte labels p < 2 ^ 8) → Spread 45 labels words
-    → (s : Syndrome) → IsSyndrome labels b s → (t r : LabelSums)
-    → ((ls : List ℕ) → Spread 9 ls (card-part words j) → (t .once ≡ label-sum 9 ls (s .rows)) × (t .squared ≡ square-sum 9 ls (s .rows)))
-    → r .once ≡ s .once ⊕ t .once → r .squared ≡ s .squared ⊕ t .squared → ReducedSums labels b j r
-reduced-sums words j l h labels b below spread s known t r adds e₁ e₂ =
-    let w = adds (drop (9 * j) labels) (part-spread words j l h labels spread) in
+    → (s : Syndrome) → IsSyndrome labels b s → (u : ℕ) (r : LabelSums) → ((ls : List ℕ) → Spread 9 ls (card-part words j) → Gathered 9 ls (s .rows) u)
+    → r .once ≡ s .once ⊕ at-point 2 8 u → r .squared ≡ s .squared ⊕ at-point 4 8 u → ReducedSums labels b j r
+reduced-sums words j l h labels b below spread s known u r gathers e₁ e₂ =
+    let w = gathers (drop (9 * j) labels) (part-spread words j l h labels spread) in
     record {
-      once = e₁ ∙ ap (λ (x : ℕ). s .once ⊕ x) (w .0) ∙ once-is labels b s known below j;
-      squared = e₂ ∙ ap (λ (x : ℕ). s .squared ⊕ x) (w .1) ∙ squared-is labels b s known below j;
+      once = e₁ ∙ ap (λ (x : ℕ). s .once ⊕ x) (w .once) ∙ once-is labels b s known below j;
+      squared = e₂ ∙ ap (λ (x : ℕ). s .squared ⊕ x) (w .squared) ∙ squared-is labels b s known below j;
     }

@@ -19,7 +19,7 @@ use Rattle.code.specs.Block.{byte, Block, block-of}
 use Rattle.code.specs.Labels.{entry, LabelSet}
 use Rattle.code.specs.Reach.{In, Reached}
 use Rattle.sums.specs.Sums.{RowSums, label-sum, square-sum}
-use Rattle.sums.specs.declared.LabelSums.{LabelSums}
+use Rattle.solve.specs.declared.LabelSums.{LabelSums}
 use Rattle.solve.specs.declared.Syndrome.{Syndrome}
 use Rattle.solve.specs.declared.Places.{Places}
 use Rattle.solve.specs.declared.Change.{Change}

@@ -19,6 +19,12 @@ pub struct Syndrome {
     pub squared: u8,
 }
 
+// The two label sums of a card's reduced matrix.
+pub struct LabelSums {
+    pub once: u8,
+    pub squared: u8,
+}
+
 // At most two chips.
 pub struct Places {
     pub count: u8,
@@ -47,26 +53,28 @@ pub fn sums_of(block: &[u8], words: &[u64]) -> Syndrome
     ensures { λ r. ⌜ ((labels : List ℕ) → Spread 45 labels (now (words .entry)) → IsSyndrome labels (now (block .entry)) r) ⌝ }
 {
     let rows = sums::row_sums(block);
-    let s = sums::label_sums(block, words);
+    let u = sums::gather(block, words);
+    let once = sums::at_x(u);
+    let squared = sums::at_x_squared(u);
     Syndrome {
         rows,
-        once: s.once,
-        squared: s.squared,
+        once,
+        squared,
     }
 }
 
 // The two sums of card j's reduced matrix: card j's labels times the row sums, added to the label sums, make card j drop out.
-pub fn reduced(words: &[u64], s: Syndrome, j: u8) -> sums::LabelSums
+pub fn reduced(words: &[u64], s: Syndrome, j: u8) -> LabelSums
     requires { ⌜ (length (now words) ≡ 45) × Small (now words) × (j < 5) ⌝ }
     ensures { λ r. ⌜ ((labels b : List ℕ) → LabelSet labels → Spread 45 labels (now (words .entry)) → IsSyndrome labels b s → ReducedSums labels b j r) ⌝ }
 {
     let at = 9 * (j as usize);
     let end = at + 9;
     let rows = s.rows;
-    let t = sums::label_sums(&rows, &words[at..end]);
-    let once = field::add(s.once, t.once);
-    let squared = field::add(s.squared, t.squared);
-    sums::LabelSums { once, squared }
+    let u = sums::gather(&rows, &words[at..end]);
+    let once = field::add(s.once, sums::at_x(u));
+    let squared = field::add(s.squared, sums::at_x_squared(u));
+    LabelSums { once, squared }
 }
 
 // Chip p's entry in card j's reduced matrix.
@@ -110,7 +118,7 @@ pub fn rows_only(rows: [u8; 9], j: u8) -> Change
 }
 
 // No further chip: both reduced sums have to be 0.
-fn solve_none(rows: [u8; 9], t: sums::LabelSums, j: u8) -> Candidate
+fn solve_none(rows: [u8; 9], t: LabelSums, j: u8) -> Candidate
     requires { ⌜ j < 5 ⌝ }
     ensures { λ r. ⌜ (r .change .card ≡ j) × ((labels b : List ℕ) → KnownAt labels b rows j t → Solved labels j [] b r) ⌝ }
 {
@@ -120,7 +128,7 @@ fn solve_none(rows: [u8; 9], t: sums::LabelSums, j: u8) -> Candidate
 }
 
 // One further chip: the sums have to be those of one column, and their quotient is what it takes.
-fn solve_one(labels: &[u8], rows: [u8; 9], t: sums::LabelSums, j: u8, p: u8) -> Candidate
+fn solve_one(labels: &[u8], rows: [u8; 9], t: LabelSums, j: u8, p: u8) -> Candidate
     requires { ⌜ (length (now labels) ≡ 45) × (j < 5) × Off j (p ∷ []) ⌝ }
     ensures { λ r. ⌜ (r .change .card ≡ j) × ((b : List ℕ) → KnownAt (now (labels .entry)) b rows j t → Solved (now (labels .entry)) j (p ∷ []) b r) ⌝ }
 {
@@ -147,7 +155,7 @@ fn solve_one(labels: &[u8], rows: [u8; 9], t: sums::LabelSums, j: u8, p: u8) -> 
 }
 
 // Two further chips: two columns are independent, so there is always one solution.
-fn solve_two(labels: &[u8], rows: [u8; 9], t: sums::LabelSums, j: u8, p: u8, q: u8) -> Candidate
+fn solve_two(labels: &[u8], rows: [u8; 9], t: LabelSums, j: u8, p: u8, q: u8) -> Candidate
     requires { ⌜ (length (now labels) ≡ 45) × (j < 5) × Off j (p ∷ q ∷ []) ⌝ }
     ensures { λ r. ⌜ (r .change .card ≡ j) × ((b : List ℕ) → KnownAt (now (labels .entry)) b rows j t → Solved (now (labels .entry)) j (p ∷ q ∷ []) b r) ⌝ }
 {
@@ -174,7 +182,7 @@ fn solve_two(labels: &[u8], rows: [u8; 9], t: sums::LabelSums, j: u8, p: u8, q: 
 }
 
 // Whether card j and the chips w reach a lawful block, and by which change.
-pub fn solve(labels: &[u8], rows: [u8; 9], t: sums::LabelSums, j: u8, w: Places) -> Candidate
+pub fn solve(labels: &[u8], rows: [u8; 9], t: LabelSums, j: u8, w: Places) -> Candidate
     requires { ⌜ (length (now labels) ≡ 45) × (j < 5) × Off j (chips w) ⌝ }
     ensures { λ r. ⌜ (r .change .card ≡ j) × ((b : List ℕ) → KnownAt (now (labels .entry)) b rows j t → Solved (now (labels .entry)) j (chips w) b r) ⌝ }
 {
@@ -190,7 +198,7 @@ pub fn solve(labels: &[u8], rows: [u8; 9], t: sums::LabelSums, j: u8, w: Places)
 
 // The only further chip that can be wrong beside card j: the one whose column the reduced sums are a multiple of. Where there is none, a
 // chip of card j itself.
-pub fn further_chip(labels: &[u8], t: sums::LabelSums, j: u8) -> u8
+pub fn further_chip(labels: &[u8], t: LabelSums, j: u8) -> u8
     requires { ⌜ (length (now labels) ≡ 45) × (j < 5) ⌝ }
     ensures { λ r. ⌜ (r < 45) × ((b z : List ℕ) → KnownAt (now (labels .entry)) b z j t → Serves (now (labels .entry)) j b r) ⌝ }
 {

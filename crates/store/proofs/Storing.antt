@@ -19,7 +19,7 @@ use Rattle.code.specs.Reach.{In, Off, Reached}
 use Rattle.code.proofs.BuiltIn.{built-in-set}
 use Rattle.code.proofs.Reach.{fits, reached, closed}
 use Rattle.code.proofs.Unique.{alike}
-use Rattle.sums.specs.declared.LabelSums.{LabelSums}
+use Rattle.solve.specs.declared.LabelSums.{LabelSums}
 use Rattle.solve.specs.Solve.{KnownAt, Solved, applied}
 use Rattle.solve.specs.declared.Candidate.{Candidate}
 use Rattle.solve.specs.declared.Change.{Change}

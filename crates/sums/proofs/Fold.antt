@@ -11,7 +11,7 @@ use Rattle.field.proofs.Tests.{every, every-at}
 use Rattle.field.proofs.Xor.{sums, add-shr, add-mod}
 use Rattle.field.proofs.Remainder.{times-pow-add, remainder-add}
 use Rattle.field.proofs.Linear.{bit-lt, bit-ind, Additive, additive-ext, additive-below}
-use Rattle.sums.specs.Steps.{at-point, reduced}
+use Rattle.sums.specs.Sums.{at-point, reduced}
 use Rattle.sums.proofs.Points.{at-point-add}
 
 -- the digits of v in the mask m; of v shifted down by s

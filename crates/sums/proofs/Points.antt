@@ -16,8 +16,11 @@ use Rattle.field.proofs.Gf256.{field}
 use Rattle.field.proofs.Ring.{add-mul, zero-mul as zero-times}
 use Rattle.field.proofs.Moore.{sum-ext}
 use Rattle.code.specs.Block.{byte}
-use Rattle.sums.specs.Sums.{label-sum, square-sum, spread-of, Spread}
-use Rattle.sums.specs.Steps.{gathered, at-point}
+use Rattle.sums.specs.Sums.{label-sum, square-sum, spread-of, Spread, at-point, Gathered}
+
+-- the sum of byte times word
+unfoldable pub word-sum : ℕ → List ℕ → List ℕ → ℕ
+word-sum n bytes words = sum n (λ p. getD bytes p 0 * getD words p 0)
 
 -- an additive map goes through a sum
 through : (f : ℕ → ℕ) → Additive f → (n : ℕ) (g : ℕ → ℕ) → f (sum n g) ≡ sum n (λ j. f (g j))
@@ -91,8 +94,8 @@ word-fits b s hb hs = lt-of-le-of-lt (mul-le-mul {n₁ = b} {m₁ = s} {n₂ = 2
 module _ (n : ℕ) (labels bytes words : List ℕ) (s : Spread n labels words) (hb : (p : ℕ) → getD bytes p 0 < 2 ^ 8) where
   -- the gathered word at a point is the sum of bytes times what the point makes of the labels
   at-labels : (c : ℕ) (f : ℕ → ℕ) → ((x : ℕ) → x < 2 ^ 8 → at-point c 8 (spread-of 8 x) ≡ f x)
-      → at-point c 8 (gathered n bytes words) ≡ sum n (λ p. f (byte labels p) · byte bytes p)
-  unfolding gathered
+      → at-point c 8 (word-sum n bytes words) ≡ sum n (λ p. f (byte labels p) · byte bytes p)
+  unfolding word-sum
   at-labels c f is =
       through (at-point c 8) (at-point-add c 8) n (λ p. getD bytes p 0 * getD words p 0)
       ∙ sum-ext n (λ p. at-point c 8 (getD bytes p 0 * getD words p 0)) (λ p. f (byte labels p) · byte bytes p)
@@ -100,10 +103,13 @@ module _ (n : ℕ) (labels bytes words : List ℕ) (s : Spread n labels words) (
       ∙ unspread c 8 (getD bytes p 0) (byte labels p) (hb p)
       ∙ ap (λ (z : ℕ). z · byte bytes p) (is (byte labels p) (s .bytes p l)))
 
-  pub label-sum-is : at-point 2 8 (gathered n bytes words) ≡ label-sum n labels bytes
+  label-sum-is : at-point 2 8 (word-sum n bytes words) ≡ label-sum n labels bytes
   unfolding label-sum
   label-sum-is = at-labels 2 (λ x. x) (λ x h. eqb→eq _ _ (every-at (λ x. eqb (at-point 2 8 (spread-of 8 x)) x) 256 label-test x h))
 
-  pub square-sum-is : at-point 4 8 (gathered n bytes words) ≡ square-sum n labels bytes
+  square-sum-is : at-point 4 8 (word-sum n bytes words) ≡ square-sum n labels bytes
   unfolding square-sum
   square-sum-is = at-labels 4 (λ x. x · x) (λ x h. eqb→eq _ _ (every-at (λ x. eqb (at-point 4 8 (spread-of 8 x)) (x · x)) 256 square-test x h))
+
+  pub gathers : (u : ℕ) → u ≡ word-sum n bytes words → Gathered n labels bytes u
+  gathers u e = record { once = ap (at-point 2 8) e ∙ label-sum-is; squared = ap (at-point 4 8) e ∙ square-sum-is }

@@ -10,8 +10,7 @@ ghost use lib.ListN.{length};
 ghost use Rattle.code.specs.Labels.{built-in};
 ghost use Rattle.field.specs.Field.{sum};
 ghost use Rattle.code.specs.Block.{byte, position};
-ghost use Rattle.sums.specs.Sums.{RowSums, label-sum, square-sum, Spread, Small};
-ghost use Rattle.sums.specs.Steps.{gathered, at-point, reduced};
+ghost use Rattle.sums.specs.Sums.{RowSums, Spread, Small, at-point, Gathered, reduced};
 
 // The 45 built-in labels, spread.
 const WORDS: [u64; 45] = [
@@ -62,11 +61,6 @@ const WORDS: [u64; 45] = [
     0x0000000101010100,
 ];
 
-pub struct LabelSums {
-    pub once: u8,
-    pub squared: u8,
-}
-
 // The built-in labels' words.
 pub fn built_in() -> [u64; 45]
     ensures { λ r. ⌜ Spread 45 built-in r × Small r ⌝ }
@@ -80,10 +74,10 @@ fn wide(x: u8) -> u64
     x as u64
 }
 
-// Byte k is the sum of the bytes whose label has digit k.
-fn gather(bytes: &[u8], words: &[u64]) -> u64
+// Byte k of the word is the sum of the bytes whose label has digit k.
+pub fn gather(bytes: &[u8], words: &[u64]) -> u64
     requires { ⌜ (length (now bytes) ≡ length (now words)) × Small (now words) ⌝ }
-    ensures { λ r. ⌜ r ≡ gathered (length (now (bytes .entry))) (now (bytes .entry)) (now (words .entry)) ⌝ }
+    ensures { λ u. ⌜ ((labels : List ℕ) → Spread (length (now (bytes .entry))) labels (now (words .entry)) → Gathered (length (now (bytes .entry))) labels (now (bytes .entry)) u) ⌝ }
 {
     let mut u: u64 = 0;
     let mut p: usize = 0;
@@ -105,8 +99,8 @@ fn reduce(v: u64) -> u8
     ((v ^ q ^ (q << 2) ^ (q << 3) ^ (q << 4)) & 0xff) as u8
 }
 
-// The bytes' polynomial at x: neighbours are added, the upper one shifted by 1, then pairs by 2, then fours by 4.
-fn at_x(u: u64) -> u8
+// The word's bytes as a polynomial, at x: neighbours are added, the upper one shifted by 1, then pairs by 2, then fours by 4.
+pub fn at_x(u: u64) -> u8
     ensures { λ r. ⌜ r ≡ at-point 2 8 u ⌝ }
 {
     let a = (u & 0x00ff00ff00ff00ff) ^ ((u >> 7) & 0x01fe01fe01fe01fe);
@@ -116,24 +110,13 @@ fn at_x(u: u64) -> u8
 }
 
 // The same at x squared, with the shifts twice as far.
-fn at_x_squared(u: u64) -> u8
+pub fn at_x_squared(u: u64) -> u8
     ensures { λ r. ⌜ r ≡ at-point 4 8 u ⌝ }
 {
     let a = (u & 0x00ff00ff00ff00ff) ^ ((u >> 6) & 0x03fc03fc03fc03fc);
     let b = (a & 0x0000ffff0000ffff) ^ ((a >> 12) & 0x000ffff0000ffff0);
     let c = (b & 0xffffff) ^ ((b >> 24) & 0xffffff00);
     reduce(c)
-}
-
-// The two label sums of as many bytes as there are words.
-pub fn label_sums(bytes: &[u8], words: &[u64]) -> LabelSums
-    requires { ⌜ (length (now bytes) ≡ length (now words)) × Small (now words) ⌝ }
-    ensures { λ r. ⌜ ((labels : List ℕ) → Spread (length (now (bytes .entry))) labels (now (words .entry)) → (r .once ≡ label-sum (length (now (bytes .entry))) labels (now (bytes .entry))) × (r .squared ≡ square-sum (length (now (bytes .entry))) labels (now (bytes .entry)))) ⌝ }
-{
-    let u = gather(bytes, words);
-    let once = at_x(u);
-    let squared = at_x_squared(u);
-    LabelSums { once, squared }
 }
 
 // The sum of the five bytes of chip i.

@@ -4,20 +4,19 @@ use Prim.Native.Nat.{ℕ, _≤_, _-_}
 use native.Mathlib.Numerals.{add-one}
 use lib.ListN.{length, getD}
 use Rattle.field.specs.Field.{sum, _⊕_}
-use Rattle.sums.specs.Steps.{gathered}
-use Rattle.sums.proofs.Points.{word-fits}
+use Rattle.sums.proofs.Points.{word-sum, word-fits, gathers}
 use native.Mathlib.Omega.{arith}
 use Rattle.sums.proofs.gather.Statement.{statement}
 use Rattle.sums.proofs.gather.Tie as tie
 
 abbrev Inv-loop : tie.InvT-loop
-Inv-loop bytes words u₀ p₀ u p = (p ≤ length bytes) × (u ≡ gathered p bytes words)
+Inv-loop bytes words u₀ p₀ u p = (p ≤ length bytes) × (u ≡ word-sum p bytes words)
 
 abbrev μ-loop : tie.MeasureT-loop
 μ-loop bytes words u₀ p₀ u p = length bytes - p
 
 loop-holds : tie.Need-loop-holds Inv-loop μ-loop
-unfolding gathered sum
+unfolding word-sum sum
 loop-holds c = (omega arith, refl)
 
 shared-slice-read-wide : tie.Need-shared-slice-read-wide Inv-loop μ-loop
@@ -48,11 +47,15 @@ loop-less : tie.Need-loop-less Inv-loop μ-loop
 loop-less c = omega arith
 
 loop-again : tie.Need-loop-again Inv-loop μ-loop
-unfolding gathered sum _⊕_
+unfolding word-sum sum _⊕_
 loop-again c = (omega arith, rw add-one (cc))
 
 returns : tie.Need-returns Inv-loop μ-loop
-returns c = let e : c .before .loop .p ≡ length (c .before .before .before .before .args .bytes .now) = omega arith in rw e at (c .before .loop .inv .1)
+returns c =
+    let s = c .before .before .before .before in
+    let e : c .before .loop .p ≡ length (s .args .bytes .now) = omega arith in
+    λ labels w. gathers _ labels (s .args .bytes .now) (s .args .words .now) w (λ p. omega (arith, c .before .before .before .shared-slice-known .given p)) (c .before .loop .u)
+    (rw e at (c .before .loop .inv .1))
 
 pub gather-spec : {M : Type 1} → statement M
 gather-spec =
