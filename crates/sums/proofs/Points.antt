@@ -3,6 +3,7 @@ use mathlib.Core.Path.{_≡_, refl, sym, ap, ap₂, _∙_, subst}
 use mathlib.Core.List.{List}
 use Prim.Native.Nat.{ℕ, zero, suc, _+_, _*_, _/_, _%_, _^_, _≤_, _<_}
 use native.Mathlib.Nat.{mod-lt, zero-mul, one-mul, mul-comm, mul-assoc, mul-add, mod-eq-of-lt, lt-of-le-of-lt, mul-le-mul}
+use native.Mathlib.Numerals.{add-one}
 use native.Mathlib.Omega.{arith}
 use lib.Dec.{T, eqb, eqb→eq, ltb, ltb→lt, lit<}
 use lib.Arith.{digits-div, digits-mod}
@@ -21,6 +22,13 @@ use Rattle.sums.specs.Sums.{label-sum, square-sum, spread-of, Spread, at
 -- the sum of byte times word
 unfoldable pub word-sum : ℕ → List ℕ → List ℕ → ℕ
 word-sum n bytes words = sum n (λ p. getD bytes p 0 * getD words p 0)
+
+-- one byte more
+pub word-sum-more : (bytes words : List ℕ) (p b u : ℕ) → b ≡ getD bytes p 0 → u ≡ word-sum p bytes words
+    → (b * getD words p 0) ⊕ u ≡ word-sum (p + 1) bytes words
+unfolding word-sum sum
+word-sum-more bytes words p b u q e =
+    ap₂ (λ (x y : ℕ). (x * getD words p 0) ⊕ y) q e ∙ ap (λ (n : ℕ). word-sum n bytes words) (sym (add-one p))
 
 -- an additive map goes through a sum
 through : (f : ℕ → ℕ) → Additive f → (n : ℕ) (g : ℕ → ℕ) → f (sum n g) ≡ sum n (λ j. f (g j))

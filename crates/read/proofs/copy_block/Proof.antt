@@ -36,7 +36,7 @@ copy-requires : tie.Need-copy-requires Inv-loop μ-loop
 copy-requires c κs =
     let l = c .before .before .before in
     let s = l .before .before .before in
-    omega (arith, card-length (l .loop .at) (s .args .from .now) (s .pre .0) (room _ (l .loop .inv .1) (c .before .before .loop-test .taken)))
+    omega (arith, card-length (l .loop .at) (s .args .from .now) (s .pre .0) (room (l .loop .at) (l .loop .inv .1) (omega (arith, c .before .before .loop-test .taken))))
 
 slice-aggregate-copy-2 : tie.Need-slice-aggregate-copy-2 Inv-loop μ-loop
 slice-aggregate-copy-2 c = search needs
@@ -52,7 +52,7 @@ part-copy-start-2 c =
 part-copy-end-2 : tie.Need-part-copy-end-2 Inv-loop μ-loop
 part-copy-end-2 c =
     let l = c .before .before .before .before .before .before in
-    omega (arith, l .loop .inv .2 .long, room _ (l .loop .inv .1) (c .before .before .before .before .before .loop-test .taken))
+    omega (arith, l .loop .inv .2 .long, room (l .loop .at) (l .loop .inv .1) (omega (arith, c .before .before .before .before .before .loop-test .taken)))
 
 copy-requires-2 : tie.Need-copy-requires-2 Inv-loop μ-loop
 copy-requires-2 c κs =
@@ -60,7 +60,7 @@ copy-requires-2 c κs =
     let i = p .before .before .before in
     let l = i .before in
     let s = l .before .before .before in
-    let h = room _ (l .loop .inv .1) (i .loop-test .taken) in
+    let h = room (l .loop .at) (l .loop .inv .1) (omega (arith, i .loop-test .taken)) in
     let of-from = card-length (l .loop .at) (s .args .from .now) (s .pre .0) h in
     let nine = copied (card (l .loop .at) (s .args .from .now)) (replicate 9 0) (p .copy .last .1 .0) (sym of-from) (p .copy .ensures .1) in
     omega (arith, ap length nine ∙ of-from, card-length (l .loop .at) (l .loop .to) (l .loop .inv .2 .long) h)
@@ -77,7 +77,7 @@ loop-again c =
     let i = p .before .before .before in
     let l = i .before in
     let s = l .before .before .before in
-    let h = room _ (l .loop .inv .1) (i .loop-test .taken) in
+    let h = room (l .loop .at) (l .loop .inv .1) (omega (arith, i .loop-test .taken)) in
     let of-from = card-length (l .loop .at) (s .args .from .now) (s .pre .0) h in
     let nine = copied (card (l .loop .at) (s .args .from .now)) (replicate 9 0) (p .copy .last .1 .0) (sym of-from) (p .copy .ensures .1) in
     let of-to = card-length (l .loop .at) (l .loop .to) (l .loop .inv .2 .long) h in

@@ -1,10 +1,9 @@
 -- `sums::gather` meets its contract. Invariant: the word gathers the bytes passed.
 use mathlib.Core.Path.{_≡_, refl}
 use Prim.Native.Nat.{ℕ, _≤_, _-_}
-use native.Mathlib.Numerals.{add-one}
 use lib.ListN.{length, getD}
 use Rattle.field.specs.Field.{sum, _⊕_}
-use Rattle.sums.proofs.Points.{word-sum, word-fits, gathers}
+use Rattle.sums.proofs.Points.{word-sum, word-sum-more, word-fits, gathers}
 use native.Mathlib.Omega.{arith}
 use Rattle.sums.proofs.gather.Statement.{statement}
 use Rattle.sums.proofs.gather.Tie as tie
@@ -47,8 +46,11 @@ loop-less : tie.Need-loop-less Inv-loop μ-loop
 loop-less c = omega arith
 
 loop-again : tie.Need-loop-again Inv-loop μ-loop
-unfolding word-sum sum _⊕_
-loop-again c = (omega arith, rw add-one (cc))
+unfolding _⊕_
+loop-again c =
+    let l = c .before .before .before .before in
+    let s = l .before .before .before in
+    (omega arith, word-sum-more (s .args .bytes .now) (s .args .words .now) (l .loop .p) (c .before .wide .result) (l .loop .u) (c .before .wide .ensures) (l .loop .inv .1))
 
 returns : tie.Need-returns Inv-loop μ-loop
 returns c =
