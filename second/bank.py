@@ -5,11 +5,15 @@ Standard input: 4 mark bytes, then a bank.  Standard output: the lines that
 """
 
 import sys
+from functools import lru_cache
 
 import reference as ref
 
 MARKS = 4
 LONGEST = MARKS + ref.BLOCK * ref.MOST_BLOCKS
+
+# A bank may hold one block many times; it is read once.
+reading = lru_cache(maxsize=64)(ref.reading)
 
 
 def block_line(k, answer):
@@ -36,7 +40,7 @@ def lines(data):
     totals = [0] * 5
     said = [f"blocks {blocks}"]
     for k in range(blocks):
-        answer, _ = ref.reading(ref.block_of(bank, k), marks)
+        answer, _ = reading(ref.block_of(bank, k), marks)
         which = ref.total_of(answer)
         totals[which] += 1
         if which != ref.CLEAN:

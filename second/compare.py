@@ -1,8 +1,8 @@
 """Compares the bank program with second/bank.py, byte for byte.
 
 First document 01's worked blocks and limits, then an input that arrives in
-pieces, then seeded banks: each kind of damage under each shape of marks, now
-and then with a wrong length, and some banks of 1,024 blocks.
+pieces, then seeded banks of 1 to 1,024 blocks: each kind of damage under each
+shape of marks, now and then with a wrong length.
 
 A difference is printed with the input and both outputs, and the exit is 1.
 The input is saved too, and a seeded bank has a number to run it alone:
@@ -30,6 +30,7 @@ LARGEST = BLOCK * MOST_BLOCKS              # 46,080
 SECONDS = 20                               # longer than this is no answer
 PAUSE = 0.003                              # between the pieces of an input
 LARGE_EVERY = 500                          # one seeded bank in so many is full
+DIFFERENT = 16                             # blocks of a bank, the rest repeat
 WRONG_LENGTH = 1 / 15                      # share of banks cut or made longer
 
 
@@ -162,6 +163,21 @@ SHAPES = tuple(damage.MARK_SHAPES)
 KINDS = tuple(damage.DAMAGE)
 PAIRS = tuple((shape, kind) for kind in KINDS for shape in SHAPES)
 
+# Any number of blocks may come, a large one less often: 17 or more in every
+# sixth bank, 512 or more in every hundredth.
+SIZES = range(1, MOST_BLOCKS + 1)
+SIZE_WEIGHTS = tuple(n ** -1.5 for n in SIZES)
+
+
+def blocks_with(rng, record, kind):
+    """Blocks of a bank, one of them with damage of the kind."""
+    count = rng.choices(SIZES, SIZE_WEIGHTS)[0]
+    pool = [damage.damaged_block(rng, record)
+            for _ in range(min(count - 1, DIFFERENT))]
+    blocks = pool + rng.choices(pool or [b""], k=count - 1 - len(pool))
+    blocks.insert(rng.randrange(count), damage.damaged_block(rng, record, kind))
+    return blocks
+
 
 def seeded(seed, at):
     """(name, input) of seeded bank number `at`; the same one every time."""
@@ -172,11 +188,7 @@ def seeded(seed, at):
                 record + damage.damaged_bank(rng, record, MOST_BLOCKS))
     shape, kind = PAIRS[at % len(PAIRS)]
     record = bytes(damage.MARK_SHAPES[shape](rng))
-    blocks = [damage.damaged_block(rng, record)
-              for _ in range(rng.choice((0, 0, 1, 2, 5, 15)))]
-    blocks.insert(rng.randrange(len(blocks) + 1),
-                  damage.damaged_block(rng, record, kind))
-    data = record + b"".join(blocks)
+    data = record + b"".join(blocks_with(rng, record, kind))
     # The first of each pair has its right length.
     if at >= len(PAIRS) and rng.random() < WRONG_LENGTH:
         by = rng.choice((1, 44, rng.randrange(1, BLOCK)))

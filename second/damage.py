@@ -422,11 +422,13 @@ def program_input(rng):
 
 # ------------------------------------------------------------ command line
 
-def _mark_argument(words):
-    numbers = [int(word) for word in words.split(",")]
-    if len(numbers) != 4 or not all(0 <= x <= 255 for x in numbers):
+def mark_argument(words):
+    """A mark record from the command line, lawful or not."""
+    parts = words.split(",")
+    if len(parts) != 4 or not all(part.isdecimal() and int(part) <= 255
+                                  for part in parts):
         raise argparse.ArgumentTypeError("four numbers, each 0 to 255")
-    return bytes(numbers)
+    return bytes(int(part) for part in parts)
 
 
 def _parser():
@@ -444,7 +446,7 @@ def _parser():
     parser.add_argument("--blocks", type=int, default=16,
                         help="blocks of the bank (default 16); the bank "
                              "program takes 1 to 1024")
-    parser.add_argument("--marks", type=_mark_argument, default=ref.FRESH,
+    parser.add_argument("--marks", type=mark_argument, default=ref.FRESH,
                         metavar="CARD,COUNT,FIRST,SECOND",
                         help="mark record, lawful or not; 255 for an unused "
                              "place (default 255,0,255,255)")

@@ -12,7 +12,9 @@ The parts, in order: field, labels, check rules, elimination, storing, marks,
 allowed changes, the set S, reading, the calls on lent bytes, the book.
 """
 
+import math
 from collections import namedtuple
+from fractions import Fraction
 from functools import lru_cache
 
 CARDS = 5
@@ -552,9 +554,13 @@ def report(bank, marks):
 
 
 def sound_per_thousand(totals):
-    """The first three totals per thousand of all, nearest, halves up."""
-    blocks = sum(totals)
-    return (2000 * sum(totals[:3]) + blocks) // (2 * blocks)
+    """The first three totals per thousand of all, nearest, halves up.
+
+    By exact fractions, so that it shares no formula with the library.
+    """
+    share = 1000 * Fraction(sum(totals[:3]), sum(totals))
+    whole = math.floor(share)
+    return whole + 1 if share - whole >= Fraction(1, 2) else whole
 
 
 # ---------------------------------------------------------------- the book

@@ -24,6 +24,7 @@ import reference as ref             # noqa: E402
 from reference import BLOCK, RECORD  # noqa: E402
 
 HUGE = (2 ** 64 - 1, 2 ** 64 // 45 + 1, 2 ** 63, 2 ** 32)
+WIDEST = 2 ** 32 - 1                # of a chip's or card's number through C
 
 
 class Difference(Exception):
@@ -162,6 +163,17 @@ def every_length(lib, rng):
     for name in ("place_chip", "lift_chip", "place_card"):
         vary(name, (marks, 0), up_to_ninety_odd)
     vary("lift_card", (marks,), up_to_ninety_odd)
+    return made + every_mark_number(lib)
+
+
+def every_mark_number(lib):
+    """Chips and cards 0 to 600 and the widest, with none and with one marked."""
+    made = 0
+    for name in ("place_chip", "lift_chip", "place_card"):
+        for marks in (ref.FRESH, bytes((4, 1, 44, 255))):
+            for asked in (*range(601), 2 ** 16 + 4, 2 ** 31, WIDEST):
+                compare_call(lib, name, marks, asked)
+                made += 1
     return made
 
 
@@ -271,6 +283,13 @@ def hits(rng, run):
             for p in range(BLOCK) if held[p] != before[p]]
 
 
+def beyond(rng, limit):
+    """A chip's or card's number that may be too large, by little or by much;
+    256 and a lawful number is one that a byte would cut."""
+    return rng.choice([limit, 255, 256, 300, WIDEST, rng.randrange(256),
+                       256 + rng.randrange(limit), rng.randrange(WIDEST)])
+
+
 def mark_entry(rng, run):
     """Placing or lifting, more often of what is there than by chance."""
     name = rng.choices(["place_chip", "lift_chip", "place_card", "lift_card"],
@@ -278,12 +297,12 @@ def mark_entry(rng, run):
     if name == "lift_card":
         return (name,)
     if name == "place_card":
-        return name, rng.choice([*range(5), 5, 255, rng.randrange(256)])
+        return name, rng.choice([*range(5), beyond(rng, 5)])
     there = list(run.book.chips)
     if there and rng.random() < 0.6:
         return name, rng.choice(there)
-    beyond = rng.choice([45, 255, rng.randrange(256)])
-    return name, beyond if rng.random() < 0.1 else rng.randrange(BLOCK)
+    return name, (beyond(rng, BLOCK) if rng.random() < 0.1
+                  else rng.randrange(BLOCK))
 
 
 def loose_marks(rng):
@@ -319,7 +338,7 @@ def loose_entry(rng):
         return "loose", name, block, marks, output
     if name in ("place_chip", "lift_chip", "place_card"):
         limit = 5 if name == "place_card" else BLOCK
-        asked = rng.randrange(limit) if rng.random() < 0.8 else rng.randrange(256)
+        asked = rng.randrange(limit) if rng.random() < 0.8 else beyond(rng, limit)
         return "loose", name, marks, asked
     if name == "lift_card":
         return "loose", name, marks

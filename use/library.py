@@ -9,13 +9,12 @@ each call.
 import contextlib
 import ctypes
 import subprocess
-import sys
 import tempfile
 from collections import namedtuple
 from pathlib import Path
 
 ROOT = Path(__file__).resolve().parent.parent
-ARCHIVE = ROOT / "target" / "staticlib" / "libcapi.a"
+ARCHIVE = ROOT / "built" / "livomashen" / "liblivomashen.a"
 GUARD = bytes(range(0xC0, 0xD0))
 
 # What read, get and patrol say, and what report says.
@@ -23,10 +22,10 @@ Answer = namedtuple("Answer", "number kind card n")
 Report = namedtuple("Report", "number totals")
 
 _AT, _LEN = ctypes.c_void_p, ctypes.c_size_t
-_U8, _U32, _U64 = ctypes.c_uint8, ctypes.c_uint32, ctypes.c_uint64
+_U32, _U64 = ctypes.c_uint32, ctypes.c_uint64
 
 # Each call's arguments in order: "in" and "out" are lent slices, the second
-# kind may be written; "k" is a block number and "u8" a byte.
+# kind may be written; "k" is a block number, "mark" a chip's or card's number.
 CALLS = {
     "store": (_U32, ("in", "out")),
     "read": (_U32, ("in", "in", "out")),
@@ -35,16 +34,24 @@ CALLS = {
     "get": (_U32, ("in", "k", "in", "out")),
     "patrol": (_U32, ("out", "k", "in")),
     "report": (_U64, ("in", "in")),
-    "place_chip": (_U32, ("out", "u8")),
-    "lift_chip": (_U32, ("out", "u8")),
-    "place_card": (_U32, ("out", "u8")),
+    "place_chip": (_U32, ("out", "mark")),
+    "lift_chip": (_U32, ("out", "mark")),
+    "place_card": (_U32, ("out", "mark")),
     "lift_card": (_U32, ("out",)),
 }
-_TYPES = {"in": (_AT, _LEN), "out": (_AT, _LEN), "k": (_LEN,), "u8": (_U8,)}
+_TYPES = {"in": (_AT, _LEN), "out": (_AT, _LEN), "k": (_LEN,), "mark": (_U32,)}
 
 
 class Overrun(Exception):
     """Bytes outside a lent slice, or of a slice lent for reading, changed."""
+
+
+class Beyond(ValueError):
+    """A number that the call's argument can't hold."""
+
+
+class NoLibrary(SystemExit):
+    """There is no archive, or it can't be loaded; the message says why."""
 
 
 class _Lent:
@@ -83,8 +90,10 @@ class Library:
             if kind in ("in", "out"):
                 lent.append((kind, _Lent(value)))
                 passed += lent[-1][1].arguments()
-            else:
+            elif 0 <= value < 1 << 8 * ctypes.sizeof(_TYPES[kind][0]):
                 passed.append(value)
+            else:
+                raise Beyond(f"{value} does not fit an argument of {name}")
         code = function(*passed)
         for kind, slice_ in lent:
             after = slice_.after()
@@ -106,11 +115,23 @@ class Library:
 def open_library(archive=ARCHIVE):
     """The archive as a Library, while the with statement lasts."""
     archive = Path(archive)
-    if not archive.exists():
-        sys.exit(f"{archive} is not there; `rt staticlib capi` builds it, or "
-                 "name another archive with --library")
+    if not archive.is_file():
+        raise NoLibrary(f"{archive} is not there; `use/build` builds it, or name "
+                        "another archive with --library")
     with tempfile.TemporaryDirectory() as folder:
         shared = Path(folder) / "livomashen.so"
-        subprocess.run(["gcc", "-shared", "-o", shared, "-Wl,--whole-archive",
-                        archive, "-Wl,--no-whole-archive"], check=True)
-        yield Library(shared)
+        yield _loaded(archive, shared)
+
+
+def _loaded(archive, shared):
+    command = ["gcc", "-shared", "-o", shared, "-Wl,--whole-archive", archive,
+               "-Wl,--no-whole-archive"]
+    try:
+        subprocess.run(command, check=True, capture_output=True, text=True)
+        return Library(shared)
+    except FileNotFoundError:
+        raise NoLibrary("gcc is not installed, and the archive is loaded by it")
+    except subprocess.CalledProcessError as error:
+        raise NoLibrary(f"{archive} cannot be loaded:\n{error.stderr.strip()}")
+    except (AttributeError, OSError) as error:
+        raise NoLibrary(f"{archive} is not this library: {error}")

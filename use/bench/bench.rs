@@ -6,7 +6,7 @@
 //!   bench list              the cases, and the codecs that are linked
 //!
 //! Built by use/bench/run, with --cfg library and --cfg libfec where the two
-//! are at hand.  Each codec has the same three C functions; callgrind counts
+//! are at hand.  Each codec has the same five C functions; callgrind counts
 //! what runs inside them and nothing else.
 
 #[cfg(library)]
@@ -24,6 +24,9 @@ mod random;
 
 mod cases;
 mod codecs;
+#[cfg(libfec)]
+mod fec;
+mod plainly;
 
 use cases::{Case, Input, What, CASES, NO_MARKS};
 use codecs::{codecs, Codec};
@@ -78,64 +81,70 @@ impl Ready<'_> {
     }
 
     /// Makes every call once.  The output is used again, never cleared.
-    fn once(&self, out: &mut [u8]) {
-        match self.what {
-            What::Store => {
-                for input in &self.inputs {
-                    black_box(self.codec.store(black_box(&input.record), out));
-                }
-            }
-            What::Read | What::ReadAny => {
-                for (k, input) in self.inputs.iter().enumerate() {
-                    black_box(self.codec.read(black_box(self.block(k)), &input.marks, out));
-                }
-            }
-            What::Report(_) => {
-                black_box(self.codec.report(black_box(&self.bank), &NO_MARKS));
-            }
+    fn once(&mut self, out: &mut [u8]) {
+        if self.what == What::Report {
+            black_box(self.codec.report(black_box(&self.bank), &NO_MARKS));
+            return;
+        }
+        for k in 0..self.inputs.len() {
+            black_box(self.call(k, out));
         }
         black_box(out);
     }
 
-    /// A time or count is worth nothing if the records don't come out.
-    fn check(&self) {
-        let mut out = [0; BLOCK];
+    fn call(&mut self, k: usize, out: &mut [u8]) -> u32 {
+        let input = &self.inputs[k];
         match self.what {
-            What::Read => {
-                for (k, input) in self.inputs.iter().enumerate() {
-                    let said = self.codec.read(self.block(k), &input.marks, &mut out);
-                    assert_eq!(
-                        said & 0xFF,
-                        0,
-                        "{}: input {k} is not corrected",
-                        self.codec.name
-                    );
-                    assert_eq!(
-                        out[..RECORD],
-                        input.record,
-                        "{}: input {k}",
-                        self.codec.name
-                    );
-                    let restored: Vec<u8> = self
-                        .block(k)
-                        .iter()
-                        .zip(input.damage)
-                        .map(|(a, b)| a ^ b)
-                        .collect();
-                    assert_eq!(out[..], restored, "{}: input {k}", self.codec.name);
-                }
-            }
-            What::Report(blocks) => {
-                let code = self.codec.report(&self.bank, &NO_MARKS);
-                assert_eq!(code, (blocks as u64) << 8, "{}: report", self.codec.name);
-            }
-            What::Store | What::ReadAny => {}
+            What::Store => self.codec.store(black_box(&input.record), out),
+            What::Get => self.codec.get(black_box(&self.bank), k, &input.marks, out),
+            What::Patrol => self.codec.patrol(&mut self.bank, k, &input.marks),
+            _ => self.codec.read(black_box(self.block(k)), &input.marks, out),
         }
+    }
+
+    /// A time or count is worth nothing if the answers are not right.
+    fn check(&mut self) {
+        if self.what == What::Report {
+            let code = self.codec.report(&self.bank, &NO_MARKS);
+            let clean = self.inputs.len() as u64;
+            assert_eq!(code, clean << 8, "{}: report", self.codec.name);
+            return;
+        }
+        for k in 0..self.inputs.len() {
+            let mut out = [0; BLOCK];
+            let number = self.call(k, &mut out) & 0xFF;
+            match self.what {
+                What::ReadAny => {}
+                What::ReadNone => assert_eq!(number, 10, "{}: {k}", self.codec.name),
+                _ => self.check_done(k, number, &out),
+            }
+        }
+    }
+
+    /// The call is not refused, and the block it gives is the one put.
+    fn check_done(&self, k: usize, number: u32, out: &[u8]) {
+        let (name, input) = (self.codec.name, &self.inputs[k]);
+        assert_eq!(number, 0, "{name}: input {k} is refused");
+        let given = match self.what {
+            What::Patrol => self.block(k),
+            _ => out,
+        };
+        assert_eq!(given[..RECORD], input.record, "{name}: input {k}");
+        if self.what == What::Store {
+            return;
+        }
+        let restored: Vec<u8> = self
+            .block(k)
+            .iter()
+            .zip(input.damage)
+            .map(|(a, b)| a ^ b)
+            .collect();
+        assert_eq!(given[..], restored, "{name}: input {k}");
     }
 }
 
 fn takes_part(case: &Case, codec: &Codec) -> bool {
-    case.what != What::ReadAny || codec.name != "fec"
+    codec.name != "fec" || !matches!(case.what, What::ReadAny | What::ReadNone)
 }
 
 // ----------------------------------------------------------------------- times
@@ -156,7 +165,7 @@ fn times() {
             .filter(|codec| takes_part(case, codec))
             .map(|codec| (ready(case, codec), Vec::new()))
             .collect();
-        runs.iter().for_each(|(run, _)| run.check());
+        runs.iter_mut().for_each(|(run, _)| run.check());
         let mut out = [0; BLOCK];
         for _ in 0..ROUNDS {
             for (run, taken) in &mut runs {
@@ -182,15 +191,19 @@ fn count(case: &str, codec: &str) {
 
 fn list() {
     for case in &CASES {
-        let (call, calls) = match case.what {
-            What::Store => ("store", case.inputs),
-            What::Read | What::ReadAny => ("read", case.inputs),
-            What::Report(_) => ("report", 1),
+        let calls = match case.what {
+            What::Report => 1,
+            _ => case.inputs,
         };
         for codec in codecs().iter().filter(|codec| takes_part(case, codec)) {
             println!(
                 "{} {} {}_{} {} {}",
-                case.name, codec.name, codec.name, call, calls, case.inputs
+                case.name,
+                codec.name,
+                codec.name,
+                case.what.call(),
+                calls,
+                case.inputs
             );
         }
     }
@@ -198,7 +211,7 @@ fn list() {
 
 fn main() {
     #[cfg(libfec)]
-    codecs::fec::begin();
+    fec::begin();
     let words: Vec<String> = std::env::args().skip(1).collect();
     match words.iter().map(String::as_str).collect::<Vec<_>>()[..] {
         ["times"] => times(),

@@ -12,21 +12,39 @@ pub struct Input {
     pub marks: [u8; 4],
 }
 
+/// What is called for each input, or once for the bank of all of them.
 #[derive(Clone, Copy, PartialEq)]
 pub enum What {
     Store,
     Read,
     /// A read whose answer is any; libfec has no such reading.
     ReadAny,
-    /// A report over this many clean blocks; times and counts are for a block.
-    Report(usize),
+    /// A read that no record fits; libfec reads beyond document 01's table.
+    ReadNone,
+    Get,
+    Patrol,
+    /// One report over clean blocks; times and counts are for a block.
+    Report,
+}
+
+impl What {
+    /// The function's name behind that of its codec.
+    pub fn call(self) -> &'static str {
+        match self {
+            What::Store => "store",
+            What::Read | What::ReadAny | What::ReadNone => "read",
+            What::Get => "get",
+            What::Patrol => "patrol",
+            What::Report => "report",
+        }
+    }
 }
 
 pub struct Case {
     pub name: &'static str,
     pub what: What,
     pub inputs: usize,
-    pub make: fn(&mut Random) -> ([u8; BLOCK], [u8; 4]),
+    pub make: Make,
 }
 
 pub const NO_MARKS: [u8; 4] = [255, 0, 255, 255];
@@ -71,6 +89,15 @@ fn two_marked_chips(rng: &mut Random) -> ([u8; BLOCK], [u8; 4]) {
     (damage, [255, 2, first as u8, second as u8])
 }
 
+/// Bad chips on two cards: none fits, whatever the changes.
+fn two_chips_of_two_cards(rng: &mut Random) -> ([u8; BLOCK], [u8; 4]) {
+    let mut damage = [0; BLOCK];
+    let card = rng.below(5);
+    damage[9 * card + rng.below(9)] = rng.change();
+    damage[9 * ((card + 1 + rng.below(4)) % 5) + rng.below(9)] = rng.change();
+    (damage, NO_MARKS)
+}
+
 /// Damage of every sort under every shape of lawful marks.
 fn anything(rng: &mut Random) -> ([u8; BLOCK], [u8; 4]) {
     let (mut damage, mut marks) = two_marked_chips(rng);
@@ -99,59 +126,39 @@ fn anything(rng: &mut Random) -> ([u8; BLOCK], [u8; 4]) {
     (damage, marks)
 }
 
-pub const CASES: [Case; 9] = [
+type Make = fn(&mut Random) -> ([u8; BLOCK], [u8; 4]);
+
+const fn case(name: &'static str, what: What, inputs: usize, make: Make) -> Case {
     Case {
-        name: "store",
-        what: What::Store,
-        inputs: INPUTS,
-        make: nothing,
-    },
-    Case {
-        name: "read-clean",
-        what: What::Read,
-        inputs: INPUTS,
-        make: nothing,
-    },
-    Case {
-        name: "read-chip",
-        what: What::Read,
-        inputs: INPUTS,
-        make: one_chip,
-    },
-    Case {
-        name: "read-card",
-        what: What::Read,
-        inputs: INPUTS,
-        make: one_card,
-    },
-    Case {
-        name: "read-marked-card-and-chip",
-        what: What::Read,
-        inputs: INPUTS,
-        make: marked_card_and_chip,
-    },
-    Case {
-        name: "read-two-marked-chips",
-        what: What::Read,
-        inputs: INPUTS,
-        make: two_marked_chips,
-    },
-    Case {
-        name: "read-any",
-        what: What::ReadAny,
-        inputs: 8192,
-        make: anything,
-    },
-    Case {
-        name: "report-256",
-        what: What::Report(256),
-        inputs: 256,
-        make: nothing,
-    },
-    Case {
-        name: "report-1024",
-        what: What::Report(1024),
-        inputs: 1024,
-        make: nothing,
-    },
+        name,
+        what,
+        inputs,
+        make,
+    }
+}
+
+pub const CASES: [Case; 13] = [
+    case("store", What::Store, INPUTS, nothing),
+    case("read-clean", What::Read, INPUTS, nothing),
+    case("get-clean", What::Get, INPUTS, nothing),
+    case("patrol-clean", What::Patrol, INPUTS, nothing),
+    case("read-chip", What::Read, INPUTS, one_chip),
+    case("read-card", What::Read, INPUTS, one_card),
+    case(
+        "read-marked-card-and-chip",
+        What::Read,
+        INPUTS,
+        marked_card_and_chip,
+    ),
+    case(
+        "read-two-marked-chips",
+        What::Read,
+        INPUTS,
+        two_marked_chips,
+    ),
+    case("read-none", What::ReadNone, INPUTS, two_chips_of_two_cards),
+    case("read-any", What::ReadAny, 8192, anything),
+    case("patrol-1024", What::Patrol, 1024, nothing),
+    case("report-256", What::Report, 256, nothing),
+    case("report-1024", What::Report, 1024, nothing),
 ];

@@ -1,4 +1,5 @@
-"""Runs the benchmark's program and makes its table.  Called by use/bench/run.
+"""Runs the benchmark's program and makes its page: two tables and a legend.
+Called by use/bench/run.
 
 Usage: table.py PROGRAM LIBRARY_NOTE FEC_NOTE [FILE]
 A note says why a column is empty, and is empty itself where there is one.
@@ -11,20 +12,25 @@ import shutil
 import subprocess
 import sys
 import tempfile
-from collections import defaultdict
+import textwrap
 from pathlib import Path
 
-# Case, its words, and the most instructions for a block that we want.
+# Case, its words, and the mean and the most instructions for a block that
+# livomashen is to reach; None where no figure is set.
 CASES = {
-    "store": ("store", 1200),
-    "read-clean": ("read, clean", 600),
-    "read-chip": ("read, one bad chip, no marks", 6000),
-    "read-card": ("read, one bad card, no marks", 6000),
-    "read-marked-card-and-chip": ("read, marked card and a further chip bad", 6000),
-    "read-two-marked-chips": ("read, two marked chips bad", 6000),
-    "read-any": ("read, any damage, any marks", 6000),
-    "report-256": ("report over 256 clean blocks, a block", 600),
-    "report-1024": ("report over 1,024 clean blocks, a block", 600),
+    "store": ("store", (450, 450)),
+    "read-clean": ("read, clean", (400, 400)),
+    "get-clean": ("get, clean", (420, 420)),
+    "patrol-clean": ("patrol, clean", (390, 390)),
+    "read-chip": ("bad chip", (950, 1250)),
+    "read-card": ("bad card", (1100, 1100)),
+    "read-marked-card-and-chip": ("card* and chip", (1250, 1600)),
+    "read-two-marked-chips": ("two chips*", (1300, 1450)),
+    "read-none": ("none", None),
+    "read-any": ("any damage", (1200, 2700)),
+    "patrol-1024": ("patrol, 1,024", (390, 390)),
+    "report-256": ("report, 256", (300, 300)),
+    "report-1024": ("report, 1,024", (300, 300)),
 }
 CODECS = {"livomashen": "livomashen", "plain": "plain Rust", "fec": "libfec"}
 
@@ -71,31 +77,60 @@ def count_calls(program, case, codec, function):
                 for dump in Path(folder).glob("dump.*")]
 
 
-def cells(case, codec, taken, counted):
-    if (case, codec) not in taken:
-        return ["-", "-", "-"]
-    mean, most = counted.get((case, codec), (None, None))
-    whole = ["-" if part is None else f"{part:,.0f}" for part in (mean, most)]
-    return [f"{taken[case, codec]:,.0f}", *whole]
+# ------------------------------------------------------------------ the tables
+
+def mean_and_most(pair):
+    """`1,487/1,786`, or one figure where both are the same."""
+    mean, most = (f"{part:,.0f}" for part in pair)
+    return mean if mean == most else f"{mean}/{most}"
 
 
-def table(taken, counted):
-    heads = [f"{name} {unit}" for name in CODECS.values()
-             for unit in ("ns", "instr.", "most")]
-    rows = [["case", *heads, "to reach"]]
-    for case, (words, limit) in CASES.items():
-        row = [words]
-        for codec in CODECS:
-            row += cells(case, codec, taken, counted)
-        rows.append([*row, f"{limit:,}"])
+def cell(found, key, words):
+    return words(found[key]) if key in found else "-"
+
+
+def table(rows):
+    """Rows of cells as a table; the first row is its head."""
     widths = [max(len(row[at]) for row in rows) for at in range(len(rows[0]))]
     lines = ["| " + " | ".join(
-        cell.ljust(width) if at == 0 else cell.rjust(width)
-        for at, (cell, width) in enumerate(zip(row, widths))) + " |"
+        text.ljust(width) if at == 0 else text.rjust(width)
+        for at, (text, width) in enumerate(zip(row, widths))) + " |"
         for row in rows]
     rule = "|" + "|".join("-" * (width + 1) + ("-" if at == 0 else ":")
                           for at, width in enumerate(widths)) + "|"
     return "\n".join([lines[0], rule, *lines[1:]])
+
+
+def instruction_table(counted):
+    rows = [["case", *CODECS.values(), "to reach"]]
+    for case, (words, limit) in CASES.items():
+        rows.append([words, *(cell(counted, (case, codec), mean_and_most)
+                              for codec in CODECS),
+                     mean_and_most(limit) if limit else "-"])
+    return table(rows)
+
+
+def time_table(taken):
+    rows = [["case", *CODECS.values()]]
+    for case, (words, _) in CASES.items():
+        rows.append([words, *(cell(taken, (case, codec), "{:,.0f}".format)
+                              for codec in CODECS)])
+    return table(rows)
+
+
+def above(counted):
+    """The cases in which livomashen takes more than it is to reach."""
+    return [words for case, (words, limit) in CASES.items()
+            if limit and (case, "livomashen") in counted
+            and any(round(found) > most for found, most in
+                    zip(counted[case, "livomashen"], limit))]
+
+
+def above_line(counted):
+    if not any(codec == "livomashen" for _, codec in counted):
+        return "What livomashen reaches was not counted."
+    words = "; ".join(above(counted)) or "no case"
+    return textwrap.fill(f"Above what is to reach: {words}.", 79)
 
 
 def processor():
@@ -110,25 +145,49 @@ PAGE = """# Benchmark
 Made by `use/bench/run --write`: one process, the codecs taking turns on the
 same seeded records and damage.
 
-{table}
+Instructions inside a call, mean/most over the inputs:
 
-- ns: the median of 151 rounds, for one call, or one block of a report. Compare
-  times within a row: from run to run the machine's speed varies.
-- instr.: instructions inside the call, by callgrind, the mean over 64 inputs
-  (8,192 for any damage). most: the largest of them. Those of a report are for a
-  block.
-- to reach: the most instructions that livomashen's call may take.
-- livomashen is called through its C interface. plain Rust is use/rust/plain.rs,
-  ordinary tables, no proofs. libfec is Debian's RS(45,34) over the same field:
-  marks are erasures; an unknown card is sought by a decoding without erasures,
-  then by erasing each of the five cards in turn.
-- Any damage, any marks: random bytes, cards, chips and damage that fits every
-  card, under every shape of lawful marks, so "none" and "several" too; libfec
-  has no such answers.
+{instructions}
+
+{above}
+
+Nanoseconds for a call:
+
+{times}
+
+- store, read, get, patrol, report: the library's calls. Clean: no byte is bad.
+- bad chip, bad card: a read with one chip, or all nine chips of one card, bad
+  and nothing marked. A star is a mark: a marked card bad and a further chip;
+  two marked chips bad. none: a read with chips of two cards bad and nothing
+  marked, which no record fits.
+- any damage: reads of random bytes, cards, chips and damage that fits every
+  card, under every shape of lawful marks, so "none" and "several" too. libfec
+  has neither this nor "none".
+- 256 and 1,024: a bank of so many clean blocks, patrolled or reported whole;
+  figures are for a block.
+- Instructions are callgrind's, over 64 inputs (8,192 for any damage). Where
+  mean and most are the same there is one figure. To reach: the most that
+  livomashen is to take.
+- Times are the median of 151 rounds. Compare them within a row: from run to
+  run the machine's speed varies.
+- livomashen is called through its C interface. plain Rust is
+  use/rust/plain.rs, ordinary tables, no proofs. libfec is Debian's RS(45,34)
+  over the same field: marks are erasures; an unknown card is sought by a
+  decoding without erasures, then by erasing each of the five cards in turn.
 - Outputs are used again and not cleared between calls. Inputs are in cache.
 
-Processor: {processor}. Compiler of plain Rust and of the benchmark: {rustc}.
+Processor: {processor}.
+Compiler of plain Rust and of the benchmark:
+{rustc}.
 {notes}"""
+
+
+def page(taken, counted, notes):
+    said = "".join(f"{note[0].upper()}{note[1:]}.\n" for note in notes)
+    return PAGE.format(
+        instructions=instruction_table(counted), above=above_line(counted),
+        times=time_table(taken), processor=processor(),
+        rustc=output_of("rustc", "--version").strip(), notes=said)
 
 
 def main():
@@ -140,15 +199,10 @@ def main():
     else:
         counted = {}
         notes.append("no instruction counts: valgrind is not installed")
-    made = table(taken, counted)
-    print(made)
-    for note in notes:
-        print(note)
+    made = page(taken, counted, notes)
+    print(made, end="")
     if file:
-        said = "".join(f"{note[0].upper()}{note[1:]}.\n" for note in notes)
-        rustc = output_of("rustc", "--version").strip()
-        Path(file[0]).write_text(PAGE.format(
-            table=made, processor=processor(), rustc=rustc, notes=said))
+        Path(file[0]).write_text(made)
 
 
 if __name__ == "__main__":

@@ -99,7 +99,7 @@ static unsigned mark_number(const uint8_t *m, size_t len)
     return m[1] == 2 && m[2] == m[3] ? 7 : 0;
 }
 
-static int chip_there(const uint8_t *m, uint8_t position)
+static int chip_there(const uint8_t *m, uint32_t position)
 {
     return (m[1] >= 1 && m[2] == position) || (m[1] == 2 && m[3] == position);
 }
@@ -245,7 +245,7 @@ static void marks_become(const char *call, uint32_t got, unsigned wanted, const 
     memcpy(marks.now, marks.before, marks.len + 2 * GUARD);
 }
 
-static void try_place_chip(uint8_t position)
+static void try_place_chip(uint32_t position)
 {
     const uint8_t *m = marks.bytes;
     uint8_t after[4] = { 0, 0, 0, 0 };
@@ -256,14 +256,14 @@ static void try_place_chip(uint8_t position)
         wanted = 8;
     if (wanted == 0) {
         memcpy(after, m, 4);
-        after[2 + m[1]] = position;
+        after[2 + m[1]] = (uint8_t)position;
         after[1]++;
     }
     marks_become("place chip", livomashen_place_chip(marks.bytes, marks.len, position),
                  wanted, after);
 }
 
-static void try_lift_chip(uint8_t position)
+static void try_lift_chip(uint32_t position)
 {
     const uint8_t *m = marks.bytes;
     uint8_t after[4] = { 0, 0, 0, 0 };
@@ -280,7 +280,7 @@ static void try_lift_chip(uint8_t position)
                  wanted, after);
 }
 
-static void try_place_card(uint8_t card)
+static void try_place_card(uint32_t card)
 {
     const uint8_t *m = marks.bytes;
     uint8_t after[4] = { 0, 0, 0, 0 };
@@ -289,7 +289,7 @@ static void try_place_card(uint8_t card)
         wanted = m[0] == card ? 7 : 8;
     if (wanted == 0) {
         memcpy(after, m, 4);
-        after[0] = card;
+        after[0] = (uint8_t)card;
     }
     marks_become("place card", livomashen_place_card(marks.bytes, marks.len, card),
                  wanted, after);

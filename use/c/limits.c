@@ -198,25 +198,41 @@ static void mark_pairs(void)
                     m[2] = (uint8_t)first, m[3] = (uint8_t)second;
                     lend_bytes(&marks, 4, m, 4);
                     try_read();
-                    try_lift_chip((uint8_t)second);
+                    try_lift_chip((uint32_t)second);
                 }
     lend_all();
 }
 
-/* Every card and chip asked for, under every shape and length of marks. */
+static void mark_calls_with(uint32_t asked)
+{
+    try_place_chip(asked);
+    try_lift_chip(asked);
+    try_place_card(asked);
+    try_lift_card();
+}
+
+/* Numbers whose low byte, or low two, would be a card or a chip. */
+static const uint32_t WIDE[] = {
+    0xFFFF, 0x10000, 0x10001, 0x1002C, 0x1000000, 0x1000007, 0x7FFFFFFF,
+    0x80000000, 0x80000004, 0xFFFFFF00, 0xFFFFFF2C, 0xFFFFFFFE, 0xFFFFFFFF
+};
+enum { WIDE_COUNT = sizeof WIDE / sizeof WIDE[0] };
+
+/* Cards and chips asked for, far beyond a byte's, under every shape and length
+ * of marks. */
 static void marks_asked_for(void)
 {
-    int shape, asked;
+    int shape, at;
+    uint32_t asked;
     size_t len;
     for (shape = 0; shape < SHAPE_COUNT; shape++)
-        for (len = 0; len <= 8; len++)
-            for (asked = 0; asked < 256; asked++) {
-                lend_bytes(&marks, len, SHAPES[shape], 4);
-                try_place_chip((uint8_t)asked);
-                try_lift_chip((uint8_t)asked);
-                try_place_card((uint8_t)asked);
-                try_lift_card();
-            }
+        for (len = 0; len <= 8; len++) {
+            lend_bytes(&marks, len, SHAPES[shape], 4);
+            for (asked = 0; asked <= 600; asked++)
+                mark_calls_with(asked);
+            for (at = 0; at < WIDE_COUNT; at++)
+                mark_calls_with(WIDE[at]);
+        }
     lend_all();
 }
 

@@ -26,6 +26,12 @@
 extern "C" {
 #endif
 
+/* The version: another MAJOR may need changes in a program that uses it. */
+#define LIVOMASHEN_VERSION_MAJOR 1
+#define LIVOMASHEN_VERSION_MINOR 0
+#define LIVOMASHEN_VERSION_PATCH 0
+#define LIVOMASHEN_VERSION "1.0.0"
+
 /* Sizes. */
 enum {
     LIVOMASHEN_CARDS = 5,
@@ -104,14 +110,15 @@ uint64_t livomashen_report(const uint8_t *bank, size_t bank_len,
                            const uint8_t *marks, size_t marks_len);
 
 /* Places or lifts a mark in a mark record: a chip by its position 0 to 44, a
- * card by its number 0 to 4.  Placing gives 0, or 6, 7, 8; lifting 0, or 6, 7,
- * 9.  Lifting the first of two chip marks moves the second down. */
+ * card by its number 0 to 4; any other number is 6, however large.  Placing
+ * gives 0, or 6, 7, 8; lifting 0, or 6, 7, 9.  Lifting the first of two chip
+ * marks moves the second down. */
 uint32_t livomashen_place_chip(uint8_t *marks, size_t marks_len,
-                               uint8_t position);
+                               uint32_t position);
 uint32_t livomashen_lift_chip(uint8_t *marks, size_t marks_len,
-                              uint8_t position);
+                              uint32_t position);
 uint32_t livomashen_place_card(uint8_t *marks, size_t marks_len,
-                               uint8_t card);
+                               uint32_t card);
 uint32_t livomashen_lift_card(uint8_t *marks, size_t marks_len);
 
 /* ------------------------------------------------------- codes taken apart */

@@ -1,7 +1,13 @@
 //! A safe Rust face of the livomashen library: a memory of five cards of nine
 //! chips, corrected by proof.
 //!
-//! Copy this file into a program as a module and link the archive:
+//! The folder that use/build makes is a cargo package:
+//!
+//! ```toml
+//! livomashen = { path = "DIR" }
+//! ```
+//!
+//! Without cargo, copy this file into a program as a module and link the archive:
 //!
 //! ```sh
 //! rustc -O -L DIR -l static=livomashen main.rs
@@ -189,9 +195,9 @@ pub mod raw {
             marks: *const u8,
             marks_len: usize,
         ) -> u64;
-        pub fn livomashen_place_chip(marks: *mut u8, marks_len: usize, position: u8) -> u32;
-        pub fn livomashen_lift_chip(marks: *mut u8, marks_len: usize, position: u8) -> u32;
-        pub fn livomashen_place_card(marks: *mut u8, marks_len: usize, card: u8) -> u32;
+        pub fn livomashen_place_chip(marks: *mut u8, marks_len: usize, position: u32) -> u32;
+        pub fn livomashen_lift_chip(marks: *mut u8, marks_len: usize, position: u32) -> u32;
+        pub fn livomashen_place_card(marks: *mut u8, marks_len: usize, card: u32) -> u32;
         pub fn livomashen_lift_card(marks: *mut u8, marks_len: usize) -> u32;
     }
 }
@@ -315,17 +321,17 @@ pub fn report(bank: &[u8], marks: &[u8]) -> Result<Totals, Refusal> {
 }
 
 /// Marks the chip at a position, 0 to 44.
-pub fn place_chip(marks: &mut [u8], position: u8) -> Result<(), Refusal> {
+pub fn place_chip(marks: &mut [u8], position: u32) -> Result<(), Refusal> {
     done(unsafe { raw::livomashen_place_chip(marks.as_mut_ptr(), marks.len(), position) })
 }
 
 /// Lifts the mark of the chip at a position; a second mark moves down.
-pub fn lift_chip(marks: &mut [u8], position: u8) -> Result<(), Refusal> {
+pub fn lift_chip(marks: &mut [u8], position: u32) -> Result<(), Refusal> {
     done(unsafe { raw::livomashen_lift_chip(marks.as_mut_ptr(), marks.len(), position) })
 }
 
 /// Marks a card, 0 to 4.
-pub fn place_card(marks: &mut [u8], card: u8) -> Result<(), Refusal> {
+pub fn place_card(marks: &mut [u8], card: u32) -> Result<(), Refusal> {
     done(unsafe { raw::livomashen_place_card(marks.as_mut_ptr(), marks.len(), card) })
 }
 

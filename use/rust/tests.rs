@@ -1,7 +1,7 @@
 //! Tests of the library through its Rust wrapper: document 01's worked blocks,
 //! the limits, and random damage against plain.rs.
 //!
-//! rustc -O --edition 2021 --test -L DIR -l static=capi tests.rs
+//! rustc -O --edition 2021 --test -L DIR -l static=livomashen tests.rs
 
 mod livomashen;
 mod plain;

@@ -1,131 +1,106 @@
--- The causes of refusal, as the code looks for them: first the bank, then the marks.
+-- The causes of refusal, as the code looks for them: the lengths, then the place in the bank, then the marks.
+--
+--   size-..        a bank's length: what is refused, and what is not
+--   place-..       a block number
+--   put-3, get-2   a wrong length is given first
+--   ..-is          where it is right, the place's cause is given, and then that of the marks
+--   within         where the place is not refused, block k lies in the bank
 use mathlib.Core.Logic.{_≢_, _⊎_, inl, inr}
-use mathlib.Core.Path.{_≡_, refl, sym, ap, ap₂, _∙_, subst}
+use mathlib.Core.Path.{_≡_, refl, sym, ap, _∙_}
 use mathlib.Core.Bool.{Bool, true, false, _||_, not}
+use mathlib.Core.List.{List, [], _∷_, _++_}
 use Prim.Native.Nat.{ℕ, zero, suc, _+_, _*_, _/_, _%_, _<_, _≤_}
 use native.Mathlib.Omega.{arith}
-use lib.Dec.{T, eqb, leb, ltb}
-use borrow.Author.Tests.{eq-eqb, ne-eqb, le-leb, lt-leb, le-ltb, lt-ltb, eqb-true, eqb-false, leb-false, ltb-false}
-use Rattle.refusal.specs.Refusal.{if}
-use Rattle.marks.specs.Marks.{in-range, two-equal, marks-cause}
+use lib.Dec.{eqb, leb, ltb}
+use lib.ListN.{length}
+use borrow.Author.Tests.{eq-eqb, ne-eqb, le-leb, lt-leb, le-ltb, lt-ltb, eqb-true, eqb-false, leb-false, ltb-false, not-false}
+use Rattle.answer.specs.Cause.{Cause, cause, lowest}
+use Rattle.answer.proofs.Causes.{first-holds, none-holds, or-else, lowest-append, else-first}
+use Rattle.marks.specs.Marks.{in-range, two-equal, marks-causes, marks-cause}
 use Rattle.marks.specs.declared.Marks.{Marks}
-use Rattle.marks.proofs.Causes.{none-holds}
-use Rattle.bank.specs.Calls.{bad-bank, past, size-cause, bank-cause, clear-cause, put-cause, get-cause, patrol-cause, report-cause}
+use Rattle.store.specs.Store.{store-cause}
+use Rattle.bank.specs.Calls.{bad-bank, past, size-causes, place-causes, clear-cause, put-cause, get-cause, patrol-cause, report-cause}
 
--- the first that is not 0
-abbrev pub or-else : ℕ → ℕ → ℕ
-or-else zero n = n
-or-else (suc m) n = suc m
+-- ---- the length of a bank
+pub size-empty : (n : ℕ) → n ≡ 0 → 4 ≡ lowest (size-causes n)
+size-empty n e = rw (eq-eqb n 0 e) refl
 
-pub by-first : (a b c : ℕ) → a ≡ c → c ≢ 0 → or-else a b ≡ c
-by-first zero b c e ne = absurd (ne (sym e))
-by-first (suc a) b c e ne = e
+pub size-odd : (n : ℕ) → n ≢ 0 → n % 45 ≢ 0 → 4 ≡ lowest (size-causes n)
+size-odd n z e = rw (ne-eqb n 0 z, ne-eqb (n % 45) 0 e) refl
 
-pub by-second : (a b : ℕ) → a ≡ 0 → or-else a b ≡ b
-by-second zero b e = refl
-by-second (suc a) b e = absurd (omega arith)
+pub size-large : (n : ℕ) → n ≢ 0 → n % 45 ≡ 0 → 46080 < n → 4 ≡ lowest (size-causes n)
+size-large n z e h = rw (ne-eqb n 0 z, eq-eqb (n % 45) 0 e, lt-ltb 46080 n h) refl
 
-pub first-none : (a b : ℕ) → or-else a b ≡ 0 → a ≡ 0
-first-none zero b e = refl
-first-none (suc a) b e = e
+pub size-right : (n : ℕ) → n ≢ 0 → n % 45 ≡ 0 → n ≤ 46080 → 0 ≡ lowest (size-causes n)
+size-right n z e h = rw (ne-eqb n 0 z, eq-eqb (n % 45) 0 e, le-ltb 46080 n h) refl
 
--- ---- the bank's own causes
-pub empty-bank : (n : ℕ) → n ≡ 0 → size-cause n ≡ 4
-unfolding size-cause
-empty-bank n e = rw (eq-eqb n 0 e) refl
+neither : (s t : Bool) → (s || t) ≡ false → (s ≡ false) × (t ≡ false)
+neither true t e = absurd (mathlib.Core.Bool.true≢false e)
+neither false t e = (refl, e)
 
-pub odd-bank : (n : ℕ) → n ≢ 0 → n % 45 ≢ 0 → size-cause n ≡ 4
-unfolding size-cause
-odd-bank n a b = rw (ne-eqb n 0 a, ne-eqb (n % 45) 0 b) refl
+pub sized : (n : ℕ) → lowest (size-causes n) ≡ 0 → (n % 45 ≡ 0) × (n ≤ 46080)
+sized n e =
+    let h = none-holds 3 (bad-bank n) [] e .0 in
+    let v = neither (not (eqb (n % 45) 0)) (ltb 46080 n) (neither (eqb n 0) (not (eqb (n % 45) 0) || ltb 46080 n) h .1) in
+    (eqb-true (n % 45) 0 (not-false (eqb (n % 45) 0) (v .0)), ltb-false 46080 n (v .1))
 
-pub large-bank : (n : ℕ) → n ≢ 0 → n % 45 ≡ 0 → 46080 < n → size-cause n ≡ 4
-unfolding size-cause
-large-bank n a b c = rw (ne-eqb n 0 a, eq-eqb (n % 45) 0 b, lt-ltb 46080 n c) refl
+-- ---- a block's place
+place-is : (n k : ℕ) → lowest (place-causes n k) ≡ or-else (lowest (size-causes n)) (lowest (cause 5 (past n k) ∷ []))
+place-is n k = lowest-append (size-causes n) (cause 5 (past n k) ∷ []) tt
 
-pub fine-bank : (n : ℕ) → n ≢ 0 → n % 45 ≡ 0 → n ≤ 46080 → size-cause n ≡ 0
-unfolding size-cause
-fine-bank n a b c = rw (ne-eqb n 0 a, eq-eqb (n % 45) 0 b, le-ltb 46080 n c) refl
+pub place-size : (n k c : ℕ) → c ≡ lowest (size-causes n) → c ≢ 0 → c ≡ lowest (place-causes n k)
+place-size n k c e h = sym (place-is n k ∙ ap (λ (x : ℕ). or-else x (lowest (cause 5 (past n k) ∷ []))) (sym e) ∙ else-first c _ h)
 
-bank-splits : (n k : ℕ) → bank-cause n k ≡ or-else (size-cause n) (if (past n k) 5 0)
-unfolding bank-cause size-cause
-bank-splits n k = go (bad-bank n)
-  where
-    go : (t : Bool) → if t 4 (if (past n k) 5 0) ≡ or-else (if t 4 0) (if (past n k) 5 0)
-    go true = refl
-    go false = refl
+pub place-past : (n k c : ℕ) → c ≡ lowest (size-causes n) → c ≡ 0 → n / 45 ≤ k → 5 ≡ lowest (place-causes n k)
+place-past n k c e z h = sym (place-is n k ∙ ap (λ (x : ℕ). or-else x (lowest (cause 5 (past n k) ∷ []))) (sym e ∙ z) ∙ rw (le-leb (n / 45) k h) refl)
 
-pub bad-size : (n k c : ℕ) → c ≡ size-cause n → c ≢ 0 → c ≡ bank-cause n k
-bad-size n k c e ne = sym (bank-splits n k ∙ by-first (size-cause n) (if (past n k) 5 0) c (sym e) ne)
+pub place-right : (n k c : ℕ) → c ≡ lowest (size-causes n) → c ≡ 0 → k < n / 45 → 0 ≡ lowest (place-causes n k)
+place-right n k c e z h = sym (place-is n k ∙ ap (λ (x : ℕ). or-else x (lowest (cause 5 (past n k) ∷ []))) (sym e ∙ z) ∙ rw (lt-leb (n / 45) k h) refl)
 
-pub bad-block : (n k c : ℕ) → c ≡ size-cause n → c ≡ 0 → n / 45 ≤ k → 5 ≡ bank-cause n k
-bad-block n k c e z h = sym (bank-splits n k ∙ by-second (size-cause n) (if (past n k) 5 0) (sym e ∙ z) ∙ ap (λ (t : Bool). if t 5 0) (le-leb (n / 45) k h))
-
-pub fine : (n k c : ℕ) → c ≡ size-cause n → c ≡ 0 → k < n / 45 → 0 ≡ bank-cause n k
-fine n k c e z h = sym (bank-splits n k ∙ by-second (size-cause n) (if (past n k) 5 0) (sym e ∙ z) ∙ ap (λ (t : Bool). if t 5 0) (lt-leb (n / 45) k h))
-
--- what no cause tells
-or-false : (a b : Bool) → a || b ≡ false → (a ≡ false) × (b ≡ false)
-or-false true b e = absurd (subst T e tt)
-or-false false b e = (refl, e)
-
-pub small : (n : ℕ) → size-cause n ≡ 0 → (n ≤ 46080) × (n % 45 ≡ 0)
-unfolding size-cause
-small n e =
-    let w = none-holds 3 (bad-bank n) 0 e .0 in
-    let v = or-false (eqb n 0) (not (eqb (n % 45) 0) || ltb 46080 n) w .1 in
-    let u = or-false (not (eqb (n % 45) 0)) (ltb 46080 n) v in
-    (ltb-false 46080 n (u .1), eqb-true (n % 45) 0 (flip (eqb (n % 45) 0) (u .0)))
-  where
-    flip : (t : Bool) → not t ≡ false → t ≡ true
-    flip true q = refl
-    flip false q = sym q
-
-sized : (n : ℕ) → size-cause n ≡ if (bad-bank n) 4 0
-unfolding size-cause
-sized n = refl
-
-pub within : (n k : ℕ) → bank-cause n k ≡ 0 → (45 * k + 45 ≤ n) × (n ≤ 46080)
-unfolding bank-cause
+pub within : (n k : ℕ) → lowest (place-causes n k) ≡ 0 → (45 * k + 45 ≤ n) × (n ≤ 46080)
 within n k e =
-    let w = none-holds 3 (bad-bank n) (if (past n k) 5 0) e in
-    let s = small n (sized n ∙ ap (λ (t : Bool). if t 4 0) (w .0)) in
-    let v = none-holds 4 (past n k) 0 (w .1) .0 in
-    let k< : k < n / 45 = leb-false (n / 45) k v in
-    (omega (arith, k<), s .0)
+    let h = none-holds 3 (bad-bank n) (cause 5 (past n k) ∷ []) e in
+    let s = sized n (ap (λ (t : Bool). lowest (cause 4 t ∷ [])) (h .0)) in
+    let i = leb-false (n / 45) k (none-holds 4 (past n k) [] (h .1) .0) in
+    (omega (arith, i), s .1)
 
--- ---- the calls'
+-- ---- the calls
+pub clear-is : (n c : ℕ) → c ≡ lowest (size-causes n) → clear-cause n ≡ c
+unfolding clear-cause
+clear-is n c e = sym e
+
 pub put-3 : (n k r : ℕ) → r ≢ 34 → put-cause n k r ≡ 3
 unfolding put-cause
-put-3 n k r h = rw (ne-eqb r 34 h) refl
+put-3 n k r h = rw (ne-eqb r 34 h) (first-holds 3 (place-causes n k) tt)
 
-pub put-bank : (n k r : ℕ) → r ≡ 34 → put-cause n k r ≡ bank-cause n k
-unfolding put-cause bank-cause
-put-bank n k r e = rw (eq-eqb r 34 e) refl
+pub put-is : (n k r : ℕ) → r ≡ 34 → put-cause n k r ≡ lowest (place-causes n k)
+unfolding put-cause
+put-is n k r e = rw (eq-eqb r 34 e) refl
 
-pub patrol-is : (n k : ℕ) (m : Marks) → patrol-cause n k m ≡ or-else (bank-cause n k) (marks-cause m)
-unfolding patrol-cause bank-cause marks-cause
-patrol-is n k m = go (bad-bank n) (past n k)
-  where
-    go : (s t : Bool) → if s 4 (if t 5 (if (not (in-range m)) 6 (if (two-equal m) 7 0))) ≡ or-else (if s 4 (if t 5 0)) (if (not (in-range m)) 6 (if (two-equal m) 7 0))
-    go true t = refl
-    go false true = refl
-    go false false = refl
+pub patrol-is : (n k : ℕ) (m : Marks) → patrol-cause n k m ≡ or-else (lowest (place-causes n k)) (marks-cause m)
+unfolding patrol-cause marks-cause
+patrol-is n k m = lowest-append (place-causes n k) (marks-causes m) tt
 
 pub get-2 : (n k : ℕ) (m : Marks) (o : ℕ) → o ≢ 45 → get-cause n k m o ≡ 2
 unfolding get-cause
-get-2 n k m o h = rw (ne-eqb o 45 h) refl
+get-2 n k m o h = rw (ne-eqb o 45 h) (first-holds 2 (place-causes n k ++ marks-causes m) tt)
 
-get-skips : (n k : ℕ) (m : Marks) (o : ℕ) → o ≡ 45 → get-cause n k m o ≡ patrol-cause n k m
+pub get-is : (n k : ℕ) (m : Marks) (o : ℕ) → o ≡ 45 → get-cause n k m o ≡ patrol-cause n k m
 unfolding get-cause patrol-cause
-get-skips n k m o e = rw (eq-eqb o 45 e) refl
+get-is n k m o e = rw (eq-eqb o 45 e) refl
 
-pub get-is : (n k : ℕ) (m : Marks) (o : ℕ) → o ≡ 45 → get-cause n k m o ≡ or-else (bank-cause n k) (marks-cause m)
-get-is n k m o e = get-skips n k m o e ∙ patrol-is n k m
+pub report-is : (n : ℕ) (m : Marks) → report-cause n m ≡ or-else (lowest (size-causes n)) (marks-cause m)
+unfolding report-cause marks-cause
+report-is n m = lowest-append (size-causes n) (marks-causes m) tt
 
-pub report-is : (n : ℕ) (m : Marks) → report-cause n m ≡ or-else (size-cause n) (marks-cause m)
-unfolding report-cause size-cause marks-cause
-report-is n m = go (bad-bank n)
-  where
-    go : (s : Bool) → if s 4 (if (not (in-range m)) 6 (if (two-equal m) 7 0)) ≡ or-else (if s 4 0) (if (not (in-range m)) 6 (if (two-equal m) 7 0))
-    go true = refl
-    go false = refl
+-- the first cause c, found by the code, and the marks'
+pub by-first : (x c d : ℕ) → c ≡ x → c ≢ 0 → or-else x d ≡ c
+by-first x c d e h = ap (λ (y : ℕ). or-else y d) (sym e) ∙ else-first c d h
+
+pub by-second : (x c d : ℕ) → c ≡ x → c ≡ 0 → or-else x d ≡ d
+by-second x c d e z = ap (λ (y : ℕ). or-else y d) (sym e ∙ z)
+
+-- ---- storing into block k
+pub store-none : (rec out : List ℕ) → length out ≡ 45 → length rec ≡ 34 → store-cause rec out ≡ 0
+unfolding store-cause
+store-none rec out lo lr = rw (eq-eqb (length out) 45 lo, eq-eqb (length rec) 34 lr) refl

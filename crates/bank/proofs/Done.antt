@@ -1,42 +1,37 @@
--- The calls' contracts, by their causes.
+-- The calls' contracts, by their causes: refused, so nothing changed; or done on block k.
+--
+--   part           block k as the code takes it; part-is, part-length, back-is: what it is, how long, and the bank with it put back
+--   put-back       a block put back as it was
+--   ..-refused     a refused call
+--   ..-done        a call on block k, from what the call on that block says
+--   no-blocks, one-more, report-done   what the report's loop has counted; total-le, class-below: within its limits
 use mathlib.Core.Logic.{_≢_, _⊎_, inl, inr}
-use mathlib.Core.Path.{_≡_, refl, sym, ap, ap₂, _∙_, subst}
+use mathlib.Core.Path.{_≡_, refl, sym, ap, _∙_, subst}
 use mathlib.Core.Bool.{Bool, true, false}
 use mathlib.Core.List.{List, [], _∷_, _++_}
 use Prim.Native.Nat.{ℕ, zero, suc, _+_, _-_, _*_, _/_, _<_, _≤_}
 use native.Mathlib.Omega.{arith}
 use native.Mathlib.Numerals.{add-one}
 use lib.Dec.{eqb}
-use lib.ListN.{length, take, drop, replicate, take-append-drop, length-take, length-drop}
-use lib.Seq.{drop-drop}
+use lib.ListN.{length, take, drop, replicate, getD, set, take-append-drop, length-take, length-drop, length-set, getD-replicate}
+use lib.Seq.{drop-drop, getD-set-same, getD-set-other}
 use borrow.Author.Tests.{eq-eqb, ne-eqb}
-use Rattle.field.proofs.Tests.{same}
-use Rattle.solve.specs.Solve.{applied}
-use Rattle.solve.specs.declared.Change.{Change}
-use Rattle.store.specs.Store.{store-cause, StoredBy, StoreDone}
-use Rattle.refusal.specs.Refusal.{outcome, unless-refused}
-use Rattle.refusal.specs.declared.Outcome.{Outcome}
-use Rattle.refusal.specs.declared.Outcome.the-variants.{Done, Refused as NotDone}
+use Rattle.base.specs.Base.{if, tally}
+use Rattle.base.proofs.Tests.{same}
+use Rattle.base.proofs.Tally.{tally-ext, count-some, count-same, at-most}
+use Rattle.answer.specs.Answer.{Answer, done, clean, in-chips, in-card, counted, refused, refused-card, By}
+use Rattle.answer.proofs.Causes.{by-refused, by-done, by-accepted, by-map}
 use Rattle.marks.specs.Marks.{marks-cause}
 use Rattle.marks.specs.declared.Marks.{Marks}
 use Rattle.code.specs.Block.{OneMember, Stored}
 use Rattle.code.specs.Labels.{built-in}
-use Rattle.reading.specs.Reading.{Reads, if-corrected}
-use Rattle.reading.specs.declared.Kind.the-variants.{Clean, Chips, OneCard}
-use Rattle.reading.specs.declared.Reading.{Reading}
-use Rattle.reading.specs.declared.Reading.the-variants.{Corrected, Nothing, Several, Refused}
-use Rattle.bank.specs.Calls.{blocks, block, with-block, size-cause, clear-cause, put-cause, get-cause, patrol-cause, report-cause, ClearDone, PutBy, PutDone, GetBy, GetDone, PatrolBy, PatrolDone, counted, totals, no-totals, EachReads, CountedBlocks, Room, ReportBy, ReportDone}
-use Rattle.bank.specs.declared.Totals.{Totals}
-use Rattle.bank.proofs.Causes.{first-none, small, report-is}
-use Rattle.bank.specs.declared.Tally.{Tally}
-use Rattle.bank.specs.declared.Tally.the-variants.{Counted, Refused as NotCounted}
-
-abbrev pub AtMost : ℕ → Totals → Type 0
-AtMost n t = (t .clean ≤ n) × (t .chips ≤ n) × (t .card ≤ n) × (t .none ≤ n) × (t .several ≤ n)
-
-no-cause : (rec out : List ℕ) → length out ≡ 45 → length rec ≡ 34 → store-cause rec out ≡ 0
-unfolding store-cause
-no-cause rec out lo lr = rw (eq-eqb (length out) 45 lo, eq-eqb (length rec) 34 lr) refl
+use Rattle.reading.specs.Reading.{ReadsUnder}
+use Rattle.store.specs.Store.{store-cause, StoreDone}
+use Rattle.block.specs.Read.{read-cause, mend-cause, ReadDone, MendDone, LookDone}
+use Rattle.block.proofs.Causes.{mend-marks}
+use Rattle.bank.specs.Calls.{blocks, block, with-block, clear-cause, put-cause, get-cause, patrol-cause, report-cause}
+use Rattle.bank.specs.Calls.{ClearDone, PutDone, GetDone, PatrolDone, ReportDone, class, how-many, totals, EachReads}
+use Rattle.bank.specs.Count.{CountedBlocks}
 
 -- ---- block k, as the code takes it: from 45 · k up to 45 · k + 45
 abbrev pub part : List ℕ → ℕ → List ℕ
@@ -45,175 +40,148 @@ part bank k = take (45 * k + 45 - 45 * k) (drop (45 * k) bank)
 pub part-is : (bank : List ℕ) (k : ℕ) → part bank k ≡ block bank k
 part-is bank k = ap (λ (n : ℕ). take n (drop (45 * k) bank)) (let e : 45 * k + 45 - 45 * k ≡ 45 = omega arith in e)
 
+pub part-length : (bank : List ℕ) (k : ℕ) → 45 * k + 45 ≤ length bank → length (part bank k) ≡ 45
+part-length bank k h = rw (length-take, length-drop) (omega arith)
+
 pub back-is : (bank : List ℕ) (k : ℕ) (x : List ℕ) → take (45 * k) bank ++ (x ++ drop (45 * k + 45 - 45 * k) (drop (45 * k) bank)) ≡ with-block bank k x
 back-is bank k x =
     ap (λ (n : ℕ). take (45 * k) bank ++ (x ++ drop n (drop (45 * k) bank))) (let e : 45 * k + 45 - 45 * k ≡ 45 = omega arith in e)
     ∙ ap (λ (l : List ℕ). take (45 * k) bank ++ (x ++ l)) (drop-drop 45 (45 * k) bank)
 
--- a block put back as it was
 pub put-back : (bank : List ℕ) (k : ℕ) → with-block bank k (block bank k) ≡ bank
 put-back bank k =
     ap (λ (l : List ℕ). take (45 * k) bank ++ (take 45 (drop (45 * k) bank) ++ l)) (sym (drop-drop 45 (45 * k) bank))
     ∙ ap (λ (l : List ℕ). take (45 * k) bank ++ l) (take-append-drop 45 (drop (45 * k) bank)) ∙ take-append-drop (45 * k) bank
 
--- ---- clear
-pub clear-refused : (bank : List ℕ) (c : ℕ) → clear-cause (length bank) ≡ c → c ≢ 0 → ClearDone bank (NotDone c) bank
+-- ---- refused
+pub clear-refused : (bank : List ℕ) (c : ℕ) → clear-cause (length bank) ≡ c → c ≢ 0 → ClearDone bank (refused c) bank
 unfolding ClearDone
-clear-refused bank zero e ne = absurd (ne refl)
-clear-refused bank (suc c) e ne =
-    subst (λ (n : ℕ). (NotDone (suc c) ≡ outcome n) × (bank ≡ unless-refused n (replicate (length bank) 0) bank)) (sym e) (refl, refl)
+clear-refused bank c e h = by-refused _ c (bank ≡ bank) ((refused c ≡ done) × (bank ≡ replicate (length bank) 0)) e h refl
 
-pub clear-done : (bank bank′ : List ℕ) → clear-cause (length bank) ≡ 0 → bank′ ≡ replicate (length bank) 0 → ClearDone bank Done bank′
+pub put-refused : (bank : List ℕ) (k : ℕ) (rec : List ℕ) (c : ℕ) → put-cause (length bank) k (length rec) ≡ c → c ≢ 0 → PutDone bank k rec (refused c) bank rec
+put-refused bank k rec c e h = record { lent = refl; put = by-refused _ c (bank ≡ bank) _ e h refl }
+
+pub get-refused : (bank : List ℕ) (k : ℕ) (m : Marks) (out : List ℕ) (c : ℕ) → get-cause (length bank) k m (length out) ≡ c → c ≢ 0 → GetDone bank k m out (refused c) bank out
+get-refused bank k m out c e h = record { kept = refl; output = by-refused _ c (out ≡ out) _ e h refl }
+
+pub patrol-refused : (bank : List ℕ) (k : ℕ) (m : Marks) (c : ℕ) → patrol-cause (length bank) k m ≡ c → c ≢ 0 → PatrolDone bank k m (refused c) bank
+unfolding PatrolDone
+patrol-refused bank k m c e h = by-refused _ c (bank ≡ bank) _ e h refl
+
+pub report-refused : (bank : List ℕ) (m : Marks) (c : ℕ) → report-cause (length bank) m ≡ c → c ≢ 0 → ReportDone bank m (refused c) bank
+report-refused bank m c e h = record { kept = refl; answer = by-refused _ c (Unit {0}) _ e h tt }
+
+-- ---- done
+pub clear-done : (bank bank′ : List ℕ) → clear-cause (length bank) ≡ 0 → bank′ ≡ replicate (length bank) 0 → ClearDone bank done bank′
 unfolding ClearDone
-clear-done bank bank′ e h = subst (λ (n : ℕ). (Done ≡ outcome n) × (bank′ ≡ unless-refused n (replicate (length bank) 0) bank)) (sym e) (refl, h)
+clear-done bank bank′ e h = by-done _ done (bank′ ≡ bank) ((done ≡ done) × (bank′ ≡ replicate (length bank) 0)) e (refl, h)
 
-pub clear-is : (n c : ℕ) → c ≡ size-cause n → clear-cause n ≡ c
-unfolding clear-cause size-cause
-clear-is n c e = sym e
+-- on block k: the call on that block has the same cause
+module _ (bank : List ℕ) (k : ℕ) (b : List ℕ) (is : b ≡ block bank k) where
+  pub put-done : (rec : List ℕ) (a : Answer) (x bank′ rec′ : List ℕ) → put-cause (length bank) k (length rec) ≡ store-cause rec b → StoreDone rec b a rec′ x
+      → bank′ ≡ with-block bank k x → PutDone bank k rec a bank′ rec′
+  put-done rec a x bank′ rec′ e w q = record {
+    lent = w .record-kept;
+    put = subst (λ (n : ℕ). By n a (bank′ ≡ bank) ((a ≡ done) × ((y : List ℕ) × OneMember (Stored built-in rec) y × (bank′ ≡ with-block bank k y)))) (sym e)
+        (by-map (store-cause rec b) a (x ≡ b) ((a ≡ done) × OneMember (Stored built-in rec) x) (bank′ ≡ bank) _
+        (λ u. q ∙ ap (with-block bank k) (u ∙ is) ∙ put-back bank k) (λ z d. (d .0, (x, d .1, q))) (w .by-cause));
+  }
 
--- ---- put
-pub put-refused : (bank : List ℕ) (k : ℕ) (rec : List ℕ) (c : ℕ) → put-cause (length bank) k (length rec) ≡ c → c ≢ 0 → PutDone bank k rec (NotDone c) bank
-unfolding PutDone
-put-refused bank k rec zero e ne = absurd (ne refl)
-put-refused bank k rec (suc c) e ne = subst (λ (n : ℕ). (NotDone (suc c) ≡ outcome n) × PutBy n bank k rec bank) (sym e) (refl, refl)
+  pub get-done : (m : Marks) (out : List ℕ) (a : Answer) (b′ out′ : List ℕ) → get-cause (length bank) k m (length out) ≡ read-cause (length b) m (length out)
+      → ReadDone b m out a b′ out′ → GetDone bank k m out a bank out′
+  get-done m out a b′ out′ e w = record {
+    kept = refl;
+    output = subst (λ (n : ℕ). By n a (out′ ≡ out) (ReadsUnder m (block bank k) out a out′)) (sym e)
+        (by-map (read-cause (length b) m (length out)) a (out′ ≡ out) (ReadsUnder m b out a out′) (out′ ≡ out) _
+        (λ u. u) (λ z d. subst (λ (l : List ℕ). ReadsUnder m l out a out′) is d) (w .output));
+  }
 
-pub put-done : (bank : List ℕ) (k : ℕ) (rec x bank′ : List ℕ) (r : Outcome) → put-cause (length bank) k (length rec) ≡ 0 → r ≡ Done
-    → OneMember (Stored built-in rec) x → bank′ ≡ with-block bank k x → PutDone bank k rec r bank′
-unfolding PutDone
-put-done bank k rec x bank′ r e d one h = subst (λ (n : ℕ). (r ≡ outcome n) × PutBy n bank k rec bank′) (sym e) (d, (x, one, h))
-
--- what storing says of a record of 34 bytes and a part of 45
-pub stored : (rec out x : List ℕ) (r : Outcome) → StoreDone rec out r x → length out ≡ 45 → length rec ≡ 34 → (r ≡ Done) × OneMember (Stored built-in rec) x
-unfolding StoreDone
-stored rec out x r h lo lr = subst (λ (n : ℕ). (r ≡ outcome n) × StoredBy n rec out x) (no-cause rec out lo lr) h
-
--- ---- get and patrol
-pub get-refused : (bank : List ℕ) (k : ℕ) (m : Marks) (out : List ℕ) (c : ℕ) → get-cause (length bank) k m (length out) ≡ c → c ≢ 0 → GetDone bank k m out (Refused c) out
-unfolding GetDone
-get-refused bank k m out zero e ne = absurd (ne refl)
-get-refused bank k m out (suc c) e ne = subst (λ (n : ℕ). GetBy n bank k m out (Refused (suc c)) out) (sym e) (refl, refl)
-
-pub get-done : (bank : List ℕ) (k : ℕ) (m : Marks) (out b : List ℕ) (r : Reading) (x out′ : List ℕ) → get-cause (length bank) k m (length out) ≡ 0
-    → b ≡ block bank k → Reads built-in m b r x → out′ ≡ if-corrected r x out → GetDone bank k m out r out′
-unfolding GetDone
-get-done bank k m out b r x out′ e q h o =
-    subst (λ (n : ℕ). GetBy n bank k m out r out′) (sym e) (x, subst (λ (l : List ℕ). Reads built-in m l r x) q h, o)
-
-pub patrol-refused : (bank : List ℕ) (k : ℕ) (m : Marks) (c : ℕ) → patrol-cause (length bank) k m ≡ c → c ≢ 0 → PatrolDone bank k m (Refused c) bank
-unfolding PatrolDone
-patrol-refused bank k m zero e ne = absurd (ne refl)
-patrol-refused bank k m (suc c) e ne = subst (λ (n : ℕ). PatrolBy n bank k m (Refused (suc c)) bank) (sym e) (refl, refl)
-
-patrolled : (bank : List ℕ) (k : ℕ) (r : Reading) (x y bank′ : List ℕ) → y ≡ if-corrected r x (block bank k) → bank′ ≡ with-block bank k y
-    → bank′ ≡ if-corrected r (with-block bank k x) bank
-patrolled bank k (Corrected kind) x y bank′ e h = h ∙ ap (with-block bank k) e
-patrolled bank k Nothing x y bank′ e h = h ∙ ap (with-block bank k) e ∙ put-back bank k
-patrolled bank k (Several j) x y bank′ e h = h ∙ ap (with-block bank k) e ∙ put-back bank k
-patrolled bank k (Refused n) x y bank′ e h = h ∙ ap (with-block bank k) e ∙ put-back bank k
-
-pub patrol-done : (bank : List ℕ) (k : ℕ) (m : Marks) (b : List ℕ) (r : Reading) (d : Change) (y bank′ : List ℕ) → patrol-cause (length bank) k m ≡ 0
-    → b ≡ block bank k → Reads built-in m b r (applied b d) → y ≡ if-corrected r (applied b d) b → bank′ ≡ with-block bank k y → PatrolDone bank k m r bank′
-unfolding PatrolDone
-patrol-done bank k m b r d y bank′ e q h o p =
-    subst (λ (n : ℕ). PatrolBy n bank k m r bank′) (sym e)
-    (applied b d, subst (λ (l : List ℕ). Reads built-in m l r (applied b d)) q h, patrolled bank k r (applied b d) y bank′ (o ∙ ap (if-corrected r (applied b d)) q) p)
+  pub patrol-done : (m : Marks) (a : Answer) (x bank′ : List ℕ) → patrol-cause (length bank) k m ≡ mend-cause (length b) m → MendDone b m a x
+      → bank′ ≡ with-block bank k x → PatrolDone bank k m a bank′
+  unfolding PatrolDone MendDone
+  patrol-done m a x bank′ e w q =
+      subst (λ (n : ℕ). By n a (bank′ ≡ bank) ((y : List ℕ) × ReadsUnder m (block bank k) (block bank k) a y × (bank′ ≡ with-block bank k y))) (sym e)
+      (by-map (mend-cause (length b) m) a (x ≡ b) (ReadsUnder m b b a x) (bank′ ≡ bank) _
+      (λ u. q ∙ ap (with-block bank k) (u ∙ is) ∙ put-back bank k) (λ z d. (x, subst (λ (l : List ℕ). ReadsUnder m l l a x) is d, q)) w)
 
 -- ---- report
-pub report-refused : (bank : List ℕ) (m : Marks) (c : ℕ) → report-cause (length bank) m ≡ c → c ≢ 0 → ReportDone bank m (NotCounted c)
-unfolding ReportDone
-report-refused bank m zero e ne = absurd (ne refl)
-report-refused bank m (suc c) e ne = subst (λ (n : ℕ). ReportBy n bank m (NotCounted (suc c))) (sym e) refl
+pub report-done : (bank : List ℕ) (m : Marks) (t : List ℕ) (a : Answer) → report-cause (length bank) m ≡ 0 → CountedBlocks bank m (blocks bank) t
+    → a ≡ counted (getD t 0 0) (getD t 1 0) (getD t 2 0) (getD t 3 0) (getD t 4 0) → ReportDone bank m a bank
+report-done bank m t a e w q = record {
+  kept = refl;
+  answer = by-done _ a (Unit {0}) ((f : ℕ → Answer) × EachReads (block bank) (blocks bank) m f × (a ≡ totals f (blocks bank))) e
+      (w .answers, w .reads, q ∙ simp (w .each 0 (omega arith), w .each 1 (omega arith), w .each 2 (omega arith), w .each 3 (omega arith), w .each 4 (omega arith)));
+}
 
-pub report-done : (bank : List ℕ) (m : Marks) (t : Totals) → report-cause (length bank) m ≡ 0 → CountedBlocks bank m (blocks bank) t → ReportDone bank m (Counted t)
-unfolding ReportDone
-report-done bank m t e w = subst (λ (n : ℕ). ReportBy n bank m (Counted t)) (sym e) (w .0, w .1, ap Counted (w .2))
-
--- one more block counted
-abbrev pick : Bool → Reading → Reading → Reading
-pick true r s = r
-pick false r s = s
-
--- f below n, and r at n
-extend : (ℕ → Reading) → ℕ → Reading → ℕ → Reading
-extend f n r k = pick (eqb k n) r (f k)
-
-extend-at : (f : ℕ → Reading) (n : ℕ) (r : Reading) → extend f n r n ≡ r
-unfolding extend
-extend-at f n r = ap (λ (t : Bool). pick t r (f n)) (eq-eqb n n refl)
-
-extend-below : (f : ℕ → Reading) (n : ℕ) (r : Reading) (k : ℕ) → k ≢ n → extend f n r k ≡ f k
-unfolding extend
-extend-below f n r k ne = ap (λ (t : Bool). pick t r (f k)) (ne-eqb k n ne)
-
-totals-ext : (f g : ℕ → Reading) (n : ℕ) → ((k : ℕ) → k < n → f k ≡ g k) → totals f n ≡ totals g n
-unfolding totals
-totals-ext f g zero h = refl
-totals-ext f g (suc n) h = ap₂ counted (h n (omega arith)) (totals-ext f g n (λ k l. h k (omega arith)))
-
-pub no-blocks : (bank : List ℕ) (m : Marks) → CountedBlocks bank m 0 no-totals
-unfolding totals
-no-blocks bank m = ((λ k. Nothing), (λ k l. absurd (omega arith)), refl)
-
-pub one-more : (bank : List ℕ) (m : Marks) (n : ℕ) (t t′ : Totals) (b : List ℕ) (r : Reading) (x : List ℕ) → CountedBlocks bank m n t
-    → b ≡ block bank n → Reads built-in m b r x → t′ ≡ counted r t → CountedBlocks bank m (n + 1) t′
-unfolding totals
-one-more bank m n t t′ b r x w q h e = (extend (w .0) n r, each, sum)
+pub no-blocks : (bank : List ℕ) (m : Marks) → CountedBlocks bank m 0 (replicate 5 0)
+unfolding tally
+no-blocks bank m = record { answers = λ k. done; reads = λ k h. absurd (omega arith); five = refl; each = zeros }
   where
-    each : (k : ℕ) → k < n + 1 → (x : List ℕ) × Reads built-in m (block bank k) (extend (w .0) n r k) x
-    each k l = go (same k n)
-      where
-        go : (k ≡ n) ⊎ (k ≢ n) → (x : List ℕ) × Reads built-in m (block bank k) (extend (w .0) n r k) x
-        go (inl z) = (
-          x,
-          subst (λ (i : ℕ). Reads built-in m (block bank i) (extend (w .0) n r i) x) (sym z)
-              (subst (λ (s : Reading). Reads built-in m (block bank n) s x) (sym (extend-at (w .0) n r)) (subst (λ (l : List ℕ). Reads built-in m l r x) q h)),
-        )
-        go (inr z) =
-            let v = w .1 k (omega arith) in
-            (v .0, subst (λ (s : Reading). Reads built-in m (block bank k) s (v .0)) (sym (extend-below (w .0) n r k z)) (v .1))
+    zeros : (i : ℕ) → i < 5 → getD {A = ℕ} (replicate 5 0) i 0 ≡ 0
+    zeros i h = getD-replicate 5 i 0 0 h
 
-    sum : t′ ≡ totals (extend (w .0) n r) (n + 1)
-    sum = rw (add-one n)
-        (e ∙ ap₂ counted (sym (extend-at (w .0) n r)) (w .2 ∙ totals-ext (w .0) (extend (w .0) n r) n (λ k l. sym (extend-below (w .0) n r k (λ z. omega arith)))))
+-- the answers below n, and a at n
+extended : (ℕ → Answer) → ℕ → Answer → ℕ → Answer
+extended f n a k = if (eqb k n) a (f k)
 
--- at most n of each among n blocks
-counted-le : (r : Reading) (t : Totals) (n : ℕ) → AtMost n t → AtMost (suc n) (counted r t)
-counted-le (Corrected Clean) t n h = omega (arith, h)
-counted-le (Corrected (Chips i)) t n h = omega (arith, h)
-counted-le (Corrected (OneCard j i)) t n h = omega (arith, h)
-counted-le Nothing t n h = omega (arith, h)
-counted-le (Several j) t n h = omega (arith, h)
-counted-le (Refused i) t n h = omega (arith, h)
+extended-at : (f : ℕ → Answer) (n : ℕ) (a : Answer) → extended f n a n ≡ a
+unfolding extended
+extended-at f n a = ap (λ (t : Bool). if t a (f n)) (eq-eqb n n refl)
 
-totals-le : (f : ℕ → Reading) (n : ℕ) → AtMost n (totals f n)
-unfolding totals
-totals-le f zero = omega arith
-totals-le f (suc n) = counted-le (f n) (totals f n) n (totals-le f n)
+extended-below : (f : ℕ → Answer) (n : ℕ) (a : Answer) (k : ℕ) → k ≢ n → extended f n a k ≡ f k
+unfolding extended
+extended-below f n a k ne = ap (λ (t : Bool). if t a (f k)) (ne-eqb k n ne)
 
-pub room : (bank : List ℕ) (m : Marks) (n : ℕ) (t : Totals) → CountedBlocks bank m n t → n < 65535 → Room t
-room bank m n t w h = let v = subst (AtMost n) (sym (w .2)) (totals-le (w .0) n) in omega (arith, v)
+-- a block that reads so is counted in one of the five places
+pub class-below : (m : Marks) (b out : List ℕ) (a : Answer) (x : List ℕ) → ReadsUnder m b out a x → class a < 5
+class-below m b out clean x w = omega arith
+class-below m b out (in-chips n) x w = omega arith
+class-below m b out (in-card j n) x w = omega arith
+class-below m b out (refused n) x w = omega arith
+class-below m b out (refused-card n j) x w = omega arith
+class-below m b out done x w = absurd w
+class-below m b out (counted u v y z o) x w = absurd w
 
-the-totals : Tally → Totals
-the-totals (Counted t) = t
-the-totals (NotCounted n) = no-totals
+module _ (bank : List ℕ) (m : Marks) (n : ℕ) (t : List ℕ) (w : CountedBlocks bank m n t) where
+  -- no total of n blocks is above n
+  pub total-le : (i : ℕ) → i < 5 → getD t i 0 ≤ n
+  total-le i h = at-most n (λ k. eqb (class (w .answers k)) i) (getD t i 0) (w .each i h)
 
-is-counted : Tally → Type 0
-is-counted (Counted t) = Unit
-is-counted (NotCounted n) = ⊥
+  pub one-more : (a : Answer) (x : List ℕ) (i : ℕ) (t′ : List ℕ) → ReadsUnder m (block bank n) [] a x → i ≡ class a → t′ ≡ set t i (getD t i 0 + 1)
+      → CountedBlocks bank m (n + 1) t′
+  unfolding tally
+  one-more a x i t′ r e q = record {
+    answers = extended (w .answers) n a;
+    reads = λ k h. each-reads k (same k n) h;
+    five = ap length q ∙ length-set t i (getD t i 0 + 1) ∙ w .five;
+    each = λ j h. each-total j (same j i) h;
+  }
+    where
+      each-reads : (k : ℕ) → (k ≡ n) ⊎ (k ≢ n) → k < n + 1 → (x : List ℕ) × ReadsUnder m (block bank k) [] (extended (w .answers) n a k) x
+      each-reads k (inl z) h = rw (z, extended-at (w .answers) n a) (x, r)
+      each-reads k (inr z) h = rw (extended-below (w .answers) n a k z) (w .reads k (omega arith))
 
--- no total of a report is above 1,024
-pub at-most : (bank : List ℕ) (m : Marks) (r : Tally) (t : Totals) → ReportDone bank m r → r ≡ Counted t → AtMost 1024 t
-unfolding ReportDone the-totals is-counted
-at-most bank m r t w e = go (report-cause (length bank) m) refl w
-  where
-    go : (n : ℕ) → report-cause (length bank) m ≡ n → ReportBy n bank m r → AtMost 1024 t
-    go zero z h =
-        let q = ap the-totals (sym e ∙ h .2) in
-        let v = subst (AtMost (blocks bank)) (sym q) (totals-le (h .0) (blocks bank)) in
-        let l = small (length bank) (first-none (size-cause (length bank)) (marks-cause m) (sym (report-is (length bank) m) ∙ z)) .0 in
-        omega (arith, v, l)
-    go (suc n) z h = absurd (subst is-counted (sym e ∙ h) tt)
+      -- below n they are counted as before
+      before : (j : ℕ) → how-many (extended (w .answers) n a) n j ≡ how-many (w .answers) n j
+      before j = tally-ext n (λ k. eqb (class (extended (w .answers) n a k)) j) (λ k. eqb (class (w .answers k)) j)
+          (λ k h. ap (λ (y : Answer). eqb (class y) j) (extended-below (w .answers) n a k (λ z. omega arith)))
 
--- ---- lengths
-pub part-length : (bank : List ℕ) (k : ℕ) → 45 * k + 45 ≤ length bank → length (part bank k) ≡ 45
-part-length bank k h = rw (length-take, length-drop) (omega arith)
+      inside : i < 5
+      inside = rw e (class-below m (block bank n) [] a x r)
+
+      each-total : (j : ℕ) → (j ≡ i) ⊎ (j ≢ i) → j < 5 → getD t′ j 0 ≡ how-many (extended (w .answers) n a) (n + 1) j
+      each-total j (inl z) h =
+          count-some (λ k. eqb (class (extended (w .answers) n a k)) j) n (getD t j 0) (getD t′ j 0) true (w .each j h ∙ sym (before j))
+          (sym (ap (λ (y : Answer). eqb (class y) j) (extended-at (w .answers) n a) ∙ eq-eqb (class a) j (sym (z ∙ e)))) refl
+          (ap (λ (l : List ℕ). getD l j 0) q ∙ rw z (getD-set-same t i (getD t i 0 + 1) 0 (omega (arith, w .five, inside))))
+      each-total j (inr z) h =
+          count-same (λ k. eqb (class (extended (w .answers) n a k)) j) n (getD t j 0) (getD t′ j 0) false (w .each j h ∙ sym (before j))
+          (sym (ap (λ (y : Answer). eqb (class y) j) (extended-at (w .answers) n a) ∙ ne-eqb (class a) j (λ y. z (sym (e ∙ y))))) refl
+          (ap (λ (l : List ℕ). getD l j 0) q ∙ getD-set-other t i j (getD t i 0 + 1) 0 z)
+
+-- block k, looked at in a bank that has it, under lawful marks
+pub looked : (bank : List ℕ) (m : Marks) (k : ℕ) (a : Answer) (b′ : List ℕ) → 45 * k + 45 ≤ length bank → marks-cause m ≡ 0 → LookDone (part bank k) m a b′
+    → (x : List ℕ) × ReadsUnder m (block bank k) [] a x
+looked bank m k a b′ h e w =
+    let d = by-accepted _ a (Unit {0}) ((x : List ℕ) × ReadsUnder m (part bank k) [] a x) (mend-marks _ m (part-length bank k h) ∙ e) (w .answer) in
+    (d .0, subst (λ (l : List ℕ). ReadsUnder m l [] a (d .0)) (part-is bank k) (d .1))

@@ -1,10 +1,14 @@
 // A bank of blocks in lent bytes: clear, put, get, patrol, and a report over it.
 ghost use mathlib.Core.Path.{_≡_};
-ghost use Prim.Native.Nat.{ℕ, _+_, _*_, _≤_, _<_};
-ghost use lib.ListN.{length};
-ghost use Rattle.marks.specs.Marks.{Lawful};
+ghost use Prim.Native.Nat.{ℕ, _/_, _≤_, _<_};
+ghost use lib.ListN.{length, replicate};
+ghost use Rattle.answer.specs.Answer.{Answer, outcome-answer};
+ghost use Rattle.answer.specs.Cause.{lowest};
+ghost use Rattle.marks.specs.Marks.{marks-cause};
+ghost use Rattle.reading.specs.Reading.{reading-answer};
 ghost use Rattle.reading.specs.declared.Reading.the-variants.{Corrected};
-ghost use Rattle.bank.specs.Calls.{blocks, size-cause, bank-cause, counted, Room, CountedBlocks, ClearDone, PutDone, GetDone, PatrolDone, ReportDone};
+ghost use Rattle.bank.specs.Calls.{blocks, size-causes, place-causes, ClearDone, PutDone, GetDone, PatrolDone, ReportDone, class, report-answer};
+ghost use Rattle.bank.specs.Count.{CountedBlocks};
 
 // How many blocks read as each.
 pub struct Totals {
@@ -15,14 +19,15 @@ pub struct Totals {
     pub several: u16,
 }
 
-pub enum Tally {
+// The totals, or the number of the refusal.
+pub enum Reported {
     Counted(Totals),
     Refused(u8),
 }
 
 // 0, or the number that a bank's length gives: 0 bytes, no multiple of 45, or above 46,080.
 fn size_cause(n: usize) -> u8
-    ensures { λ r. ⌜ r ≡ size-cause n ⌝ }
+    ensures { λ r. ⌜ r ≡ lowest (size-causes n) ⌝ }
 {
     if n == 0 {
         return 4;
@@ -37,8 +42,8 @@ fn size_cause(n: usize) -> u8
 }
 
 // 0, or the number that a bank's length or a block number gives.
-fn bank_cause(n: usize, k: usize) -> u8
-    ensures { λ r. ⌜ r ≡ bank-cause n k ⌝ }
+fn place_cause(n: usize, k: usize) -> u8
+    ensures { λ r. ⌜ r ≡ lowest (place-causes n k) ⌝ }
 {
     let cause = size_cause(n);
     if cause != 0 {
@@ -50,167 +55,129 @@ fn bank_cause(n: usize, k: usize) -> u8
     0
 }
 
+fn zero(bank: &mut [u8])
+    ensures { λ _. ⌜ now (bank .exit) ≡ replicate (length (now (bank .entry))) 0 ⌝ }
+{
+    let mut i: usize = 0;
+    while i < bank.len() {
+        bank[i] = 0;
+        i = i + 1;
+    }
+}
+
 // Makes every block 45 zeros.
-pub fn clear(bank: &mut [u8]) -> refusal::Outcome
-    ensures { λ r. ⌜ ClearDone (now (bank .entry)) r (now (bank .exit)) ⌝ }
+pub fn clear(bank: &mut [u8]) -> answer::Outcome
+    ensures { λ r. ⌜ ClearDone (now (bank .entry)) (outcome-answer r) (now (bank .exit)) ⌝ }
 {
     let cause = size_cause(bank.len());
     if cause != 0 {
-        return refusal::Outcome::Refused(cause);
+        return answer::Outcome::Refused(cause);
     }
-    lent::zero(bank);
-    refusal::Outcome::Done
+    zero(bank);
+    answer::Outcome::Done
 }
 
 // Puts a record into block k.
-pub fn put(bank: &mut [u8], k: usize, rec: &[u8]) -> refusal::Outcome
-    ensures { λ r. ⌜ PutDone (now (bank .entry)) k (now (rec .entry)) r (now (bank .exit)) ⌝ }
+pub fn put(bank: &mut [u8], k: usize, rec: &[u8]) -> answer::Outcome
+    ensures { λ r. ⌜ PutDone (now (bank .entry)) k (now (rec .entry)) (outcome-answer r) (now (bank .exit)) (now (rec .exit)) ⌝ }
 {
     if rec.len() != 34 {
-        return refusal::Outcome::Refused(3);
+        return answer::Outcome::Refused(3);
     }
-    let cause = bank_cause(bank.len(), k);
+    let cause = place_cause(bank.len(), k);
     if cause != 0 {
-        return refusal::Outcome::Refused(cause);
+        return answer::Outcome::Refused(cause);
     }
-    let at = 45 * k;
-    let end = at + 45;
-    store::store(rec, &mut bank[at..end])
+    let to = 45 * k;
+    let end = to + 45;
+    store::store(rec, &mut bank[to..end])
 }
 
 // Reads block k into the output; the bank is not altered.
 pub fn get(bank: &[u8], k: usize, m: marks::Marks, out: &mut [u8]) -> reading::Reading
-    ensures { λ r. ⌜ GetDone (now (bank .entry)) k m (now (out .entry)) r (now (out .exit)) ⌝ }
+    ensures { λ r. ⌜ GetDone (now (bank .entry)) k m (now (out .entry)) (reading-answer r) (now (bank .exit)) (now (out .exit)) ⌝ }
 {
     if out.len() != 45 {
         return reading::Reading::Refused(2);
     }
-    let cause = bank_cause(bank.len(), k);
+    let cause = place_cause(bank.len(), k);
     if cause != 0 {
         return reading::Reading::Refused(cause);
     }
-    let marked = marks::marks_cause(m);
-    if marked != 0 {
-        return reading::Reading::Refused(marked);
-    }
-    let at = 45 * k;
-    let end = at + 45;
-    let block = &bank[at..end];
-    let a = search::search(block, m);
-    read::deliver(block, a, out);
-    a.reading
+    let from = 45 * k;
+    let end = from + 45;
+    block::read(&bank[from..end], m, out)
 }
 
 // Reads block k, and puts the corrected bytes back.
 pub fn patrol(bank: &mut [u8], k: usize, m: marks::Marks) -> reading::Reading
-    ensures { λ r. ⌜ PatrolDone (now (bank .entry)) k m r (now (bank .exit)) ⌝ }
+    ensures { λ r. ⌜ PatrolDone (now (bank .entry)) k m (reading-answer r) (now (bank .exit)) ⌝ }
 {
-    let cause = bank_cause(bank.len(), k);
+    let cause = place_cause(bank.len(), k);
     if cause != 0 {
         return reading::Reading::Refused(cause);
     }
-    let marked = marks::marks_cause(m);
-    if marked != 0 {
-        return reading::Reading::Refused(marked);
-    }
-    let at = 45 * k;
-    let end = at + 45;
-    let a = search::search(&bank[at..end], m);
-    read::correct(&mut bank[at..end], a);
-    a.reading
+    let start = 45 * k;
+    let end = start + 45;
+    block::mend(&mut bank[start..end], m)
 }
 
-// The totals with one more block that is corrected so.
-fn count_kind(kind: reading::Kind, t: Totals) -> Totals
-    requires { ⌜ Room t ⌝ }
-    ensures { λ r. ⌜ r ≡ counted (Corrected kind) t ⌝ }
+fn kind_class(kind: reading::Kind) -> usize
+    ensures { λ i. ⌜ i ≡ class (reading-answer (Corrected kind)) ⌝ }
 {
     match kind {
-        reading::Kind::Clean => Totals {
-            clean: t.clean + 1,
-            chips: t.chips,
-            card: t.card,
-            none: t.none,
-            several: t.several,
-        },
-        reading::Kind::Chips(_) => Totals {
-            clean: t.clean,
-            chips: t.chips + 1,
-            card: t.card,
-            none: t.none,
-            several: t.several,
-        },
-        reading::Kind::OneCard(_, _) => Totals {
-            clean: t.clean,
-            chips: t.chips,
-            card: t.card + 1,
-            none: t.none,
-            several: t.several,
-        },
+        reading::Kind::Clean => 0,
+        reading::Kind::Chips(_) => 1,
+        reading::Kind::OneCard(_, _) => 2,
     }
 }
 
-// The totals with one more block that reads so.
-fn count_reading(r: reading::Reading, t: Totals) -> Totals
-    requires { ⌜ Room t ⌝ }
-    ensures { λ next. ⌜ next ≡ counted r t ⌝ }
+// Where a reading is counted: clean, chips, card, none, several.
+fn class_of(r: reading::Reading) -> usize
+    ensures { λ i. ⌜ i ≡ class (reading-answer r) ⌝ }
 {
     match r {
-        reading::Reading::Corrected(kind) => count_kind(kind, t),
-        reading::Reading::Nothing => Totals {
-            clean: t.clean,
-            chips: t.chips,
-            card: t.card,
-            none: t.none + 1,
-            several: t.several,
-        },
-        reading::Reading::Several(_) => Totals {
-            clean: t.clean,
-            chips: t.chips,
-            card: t.card,
-            none: t.none,
-            several: t.several + 1,
-        },
-        reading::Reading::Refused(_) => t,
+        reading::Reading::Corrected(kind) => kind_class(kind),
+        reading::Reading::Refused(_) => 3,
+        reading::Reading::Several(_) => 4,
     }
 }
 
-fn count_blocks(bank: &[u8], m: marks::Marks) -> Totals
-    requires { ⌜ (length (now bank) ≤ 46080) × Lawful m ⌝ }
-    ensures { λ t. ⌜ CountedBlocks (now (bank .entry)) m (blocks (now (bank .entry))) t ⌝ }
+fn count_blocks(bank: &[u8], m: marks::Marks) -> [u16; 5]
+    requires { ⌜ (length (now bank) ≤ 46080) × (marks-cause m ≡ 0) ⌝ }
+    ensures { λ t. ⌜ CountedBlocks (now (bank .entry)) m (blocks (now (bank .entry))) t × (now (bank .exit) ≡ now (bank .entry)) ⌝ }
 {
-    let mut t = Totals {
-        clean: 0,
-        chips: 0,
-        card: 0,
-        none: 0,
-        several: 0,
-    };
+    let mut t = [0u16; 5];
     let n = bank.len() / 45;
     let mut k: usize = 0;
     while k < n {
         let at = 45 * k;
         let end = at + 45;
-        let a = search::search(&bank[at..end], m);
-        let r = a.reading;
-        t = count_reading(r, t);
+        let i = class_of(block::look(&bank[at..end], m));
+        t[i] = t[i] + 1;
         k = k + 1;
     }
     t
 }
 
 // How many blocks read as clean, chips, card, none and several; nothing is altered.
-pub fn report(bank: &[u8], m: marks::Marks) -> Tally
-    ensures { λ r. ⌜ ReportDone (now (bank .entry)) m r ⌝ }
+pub fn report(bank: &[u8], m: marks::Marks) -> Reported
+    ensures { λ r. ⌜ ReportDone (now (bank .entry)) m (report-answer r) (now (bank .exit)) ⌝ }
 {
     let cause = size_cause(bank.len());
     if cause != 0 {
-        return Tally::Refused(cause);
+        return Reported::Refused(cause);
     }
     let marked = marks::marks_cause(m);
     if marked != 0 {
-        return Tally::Refused(marked);
+        return Reported::Refused(marked);
     }
     let t = count_blocks(bank, m);
-    Tally::Counted(t)
+    Reported::Counted(Totals {
+        clean: t[0],
+        chips: t[1],
+        card: t[2],
+        none: t[3],
+        several: t[4],
+    })
 }

@@ -1,144 +1,163 @@
 -- Demand 3, second sentence: all that is seen of any list of calls and hits is what the book says.
 --
---   Agree bank m b     bank and marks are the book's, and its held blocks are 45 long
---   Shows s b          so are the bank and marks that are seen
---   ..-next            after each kind of entry what is seen is the next book's: from the call's contract, by its cause
---   step, whole-from   one entry of any kind; any list
---   whole              THE STATEMENT
+--   Landed b τ       the state τ is that of the book b, whose blocks are 45 long
+--   settled          refused, so nothing changed; or done, and the book's own next book
+--   read-at          block k of the bank is the block that the book holds; put-at: and so it is after it is put
+--   ..-next          for each kind of call, from its contract
+--   step, whole-from one entry of any kind; any list
+--   whole            THE STATEMENT
 use Prim.Native.Nat.{ℕ, zero, suc, _+_, _*_, _/_, _%_, _<_}
-use mathlib.Core.Path.{_≡_, refl, ap, _∙_, subst₂}
+use mathlib.Core.Path.{_≡_, refl, sym, ap, _∙_, subst}
 use mathlib.Core.List.{List, [], _∷_}
 use native.Mathlib.Omega.{arith}
 use lib.ListN.{length, set, replicate, length-set}
-use lib.Seq.{set-getD}
-use Rattle.refusal.specs.Refusal.{outcome, unless-refused}
+use Rattle.answer.specs.Answer.{Answer, done, clean, in-chips, in-card, counted, refused, refused-card, By}
+use Rattle.answer.proofs.Causes.{by-map}
 use Rattle.marks.specs.Marks.{fresh-marks}
-use Rattle.marks.specs.Place.{with-chip, without-chip, with-card, place-chip-cause, lift-chip-cause, place-card-cause, lift-card-cause, MarkDone}
-use Rattle.marks.specs.declared.CardMark.the-variants.{None, Card}
+use Rattle.marks.specs.Mark.{mark-cause, marked, MarkDone}
 use Rattle.marks.specs.declared.Marks.{Marks}
-use Rattle.marks.specs.declared.Marking.{Marking}
+use Rattle.marks.specs.declared.MarkCall.{MarkCall}
+use Rattle.code.specs.Block.{OneMember, Stored}
 use Rattle.code.specs.Labels.{built-in}
-use Rattle.reading.specs.Reading.{Reads, if-corrected}
-use Rattle.reading.specs.declared.Reading.{Reading}
-use Rattle.reading.specs.declared.Reading.the-variants.{Corrected, Nothing, Several, Refused}
-use Rattle.bank.specs.Calls.{blocks, with-block, clear-cause, put-cause, get-cause, patrol-cause, report-cause}
-use Rattle.bank.specs.Calls.{ClearDone, PutBy, PutDone, GetBy, GetDone, PatrolBy, PatrolDone, ReportBy, ReportDone}
-use Rattle.bank.specs.declared.Tally.{Tally}
-use Rattle.book.specs.Book.{Entry, clear, put, get, patrol, report, place-chip, lift-chip, place-card, lift-card, hit}
-use Rattle.book.specs.Book.{did, Seen, Called, Ran, Book, zeros, fresh-book, flat, size, held-at, with-marks, with-held, cleared, PutBook, GetBook, PatrolBook, ReportBook, Says, Booked, WholeList}
+use Rattle.reading.specs.Reading.{ReadsUnder}
+use Rattle.bank.specs.Calls.{blocks, block, with-block, clear-cause, put-cause, get-cause, patrol-cause, report-cause}
+use Rattle.bank.specs.Calls.{ClearDone, PutDone, GetDone, PatrolDone, ReportDone, EachReads, totals}
+use Rattle.book.specs.Book.{Call, clear, put, get, patrol, report, mark, Entry, call, hit, Beside, State, Said, says, nothing-said, Seen, state, seen, beside-of, fresh-state}
+use Rattle.book.specs.Book.{CallDone, EntryDone, Ran, Book, zeros, zero-book, fresh-book, flat, state-of, many, size, marks-of, held-at, with-marks, with-held, with-both}
+use Rattle.book.specs.Book.{CallSays, Step, Booked, WholeList}
 use Rattle.book.proofs.Blocks.{EachLong, each-replicate, each-set, each-at, length-flat, replicate-flat, block-flat, patch-flat, hit-flat}
 use Rattle.book.proofs.Causes.{put-none, get-none, patrol-none}
 
-record Agree (bank : List ℕ) (m : Marks) (b : Book) : Type 0 where
-  bytes : bank ≡ flat (b .held)
-  marks : m ≡ b .marks
-  long : EachLong 45 (b .held)
+pub record Landed (b : Book) (τ : State) : Type 0 where
+  pub state : τ ≡ state-of b
+  pub long : EachLong 45 (b .held)
 
-abbrev Shows : Seen → Book → Type 0
-Shows s b = Agree (s .bank) (s .marks) b
+-- the book's own bank with other blocks
+landed : (b : Book) (bank : List ℕ) → bank ≡ flat (b .held) → EachLong 45 (b .held) → Landed b (state bank (b .beside))
+landed b bank e l = record { state = ap (λ (x : List ℕ). state x (b .beside)) e; long = l }
 
--- ---- one entry on the book's own bank: s is what is seen after it, z the cause of the call
-module _ (b : Book) (long : EachLong 45 (b .held)) (s : Seen) where
+-- what a reading leaves in an output of 45 bytes is 45 bytes
+pub output-long : (m : Marks) (b out : List ℕ) (a : Answer) (x : List ℕ) → ReadsUnder m b out a x → length out ≡ 45 → length x ≡ 45
+output-long m b out clean x w h = w .0 .0 .block .long
+output-long m b out (in-chips n) x w h = w .0 .0 .block .long
+output-long m b out (in-card j n) x w h = w .0 .0 .block .long
+output-long m b out (refused n) x w h = ap length (w .2) ∙ h
+output-long m b out (refused-card n j) x w h = ap length (w .3) ∙ h
+output-long m b out done x w h = absurd w
+output-long m b out (counted u v y z o) x w h = absurd w
+
+-- ---- one call on the book's own bank
+module _ (b : Book) (long : EachLong 45 (b .held)) where
   size-flat : length (flat (b .held)) ≡ size b
   size-flat = length-flat 45 (b .held) long
 
-  stays : s .marks ≡ b .marks → s .bank ≡ flat (b .held) → Shows s b
-  stays m e = record { bytes = e; marks = m; long = long }
+  settled : (n : ℕ) (a : Answer) (τ : State) (D : Type 0) (D′ : Book → Type 0) → By n a (τ ≡ state-of b) D
+      → (n ≡ 0 → D → (b′ : Book) × D′ b′ × Landed b′ τ) → (b′ : Book) × By n a (b′ ≡ b) (D′ b′) × Landed b′ τ
+  settled zero a τ D D′ w f = f refl w
+  settled (suc n) a τ D D′ (e, u) f = (b, (e, refl), record { state = u; long = long })
 
-  clear-next : s .marks ≡ b .marks → (z : ℕ) → s .bank ≡ unless-refused z (replicate (size b) 0) (flat (b .held)) → Shows s (unless-refused z (cleared b) b)
-  clear-next m zero e =
-      let n = length (b .held) in
-      record { bytes = e ∙ replicate-flat 45 n 0; marks = m; long = each-replicate 45 n zeros refl }
-  clear-next m (suc z) e = stays m e
+  unchanged : (bank : List ℕ) → bank ≡ flat (b .held) → state bank (b .beside) ≡ state-of b
+  unchanged bank e = ap (λ (x : List ℕ). state x (b .beside)) e
 
-  -- block k is set to x
-  set-next : s .marks ≡ b .marks → (k : ℕ) → k < length (b .held) → (x : List ℕ) → length x ≡ 45 → s .bank ≡ with-block (flat (b .held)) k x
-      → (good : List (List ℕ)) → Shows s (record { good = good; held = set (b .held) k x; marks = b .marks })
-  set-next m k h x l e good = record { bytes = e ∙ patch-flat 45 (b .held) k x long h; marks = m; long = each-set 45 (b .held) k x long l }
+  read-at : (k : ℕ) → k < many b → block (flat (b .held)) k ≡ held-at b k
+  read-at k h = block-flat 45 (b .held) k long h
 
-  put-next : s .marks ≡ b .marks → (z k : ℕ) (rec : List ℕ) → (z ≡ 0 → k < length (b .held)) → PutBy z (flat (b .held)) k rec (s .bank)
-      → (b′ : Book) × PutBook z b k rec b′ × Shows s b′
-  put-next m zero k rec h (x, one, e) = (_, (x, one, refl), set-next m k (h refl) x (one .0 .block .long) e (set (b .good) k x))
-  put-next m (suc z) k rec h e = (b, refl, stays m e)
+  put-at : (k : ℕ) → k < many b → (x bank : List ℕ) → bank ≡ with-block (flat (b .held)) k x → bank ≡ flat (set (b .held) k x)
+  put-at k h x bank e = e ∙ patch-flat 45 (b .held) k x long h
 
-  get-next : (z k : ℕ) (out : List ℕ) (r : Reading) → (z ≡ 0 → k < length (b .held)) → GetBy z (flat (b .held)) k (b .marks) out r (s .output)
-      → GetBook z b k out r (s .output)
-  get-next zero k out r h (x, w, e) = (x, rw (block-flat 45 (b .held) k long (h refl)) at w, e)
-  get-next (suc z) k out r h w = w
+  -- what a call says in the book, b′ being the book after it
+  Next : Call → Answer → List ℕ → State → Type 0
+  Next c a out τ = (b′ : Book) × CallSays b c a out b′ × Landed b′ τ
 
-  -- a corrected block is put back; after any other reading the block is set to itself
-  read-next : s .marks ≡ b .marks → (k : ℕ) → k < length (b .held) → (r : Reading) (x : List ℕ) → Reads built-in (b .marks) (held-at b k) r x
-      → s .bank ≡ if-corrected r (with-block (flat (b .held)) k x) (flat (b .held))
-      → Shows s (with-held b k (if-corrected r x (held-at b k)))
-  read-next m k h (Corrected kind) x w e = set-next m k h x (w .0 .0 .block .long) e (b .good)
-  read-next m k h Nothing x w e = rw (set-getD (b .held) k []) (stays m e)
-  read-next m k h (Several j) x w e = rw (set-getD (b .held) k []) (stays m e)
-  read-next m k h (Refused n) x w e = absurd w
+  clear-next : (a : Answer) (bank : List ℕ) → ClearDone (flat (b .held)) a bank → Next clear a [] (state bank (b .beside))
+  unfolding ClearDone Next
+  clear-next a bank w =
+      let n = clear-cause (size b) in
+      let v = settled n a (state bank (b .beside)) _ (λ b′. (a ≡ done) × (b′ ≡ zero-book (many b) (b .beside)))
+      (by-map n a _ _ _ _ (unchanged bank) (λ z d. d) (rw size-flat at w))
+      (λ z d. (zero-book (many b) (b .beside), (d .0, refl), landed (zero-book (many b) (b .beside)) bank (d .1 ∙ replicate-flat 45 (many b) 0) (each-replicate 45 (many b) zeros refl))) in
+      (v .0, (refl, v .1), v .2)
 
-  patrol-next : s .marks ≡ b .marks → (z k : ℕ) (r : Reading) → (z ≡ 0 → k < length (b .held)) → PatrolBy z (flat (b .held)) k (b .marks) r (s .bank)
-      → (b′ : Book) × PatrolBook z b k r b′ × Shows s b′
-  patrol-next m zero k r h (x, w, e) =
-      let w′ = rw (block-flat 45 (b .held) k long (h refl)) at w in
-      (_, (x, w′, refl), read-next m k (h refl) r x w′ e)
-  patrol-next m (suc z) k r h (w, e) = (b, (w, refl), stays m e)
+  put-next : (k : ℕ) (rec : List ℕ) (a : Answer) (bank rec′ : List ℕ) → PutDone (flat (b .held)) k rec a bank rec′ → Next (put k rec) a [] (state bank (b .beside))
+  unfolding Next
+  put-next k rec a bank rec′ w =
+      let n = put-cause (size b) k (length rec) in
+      let v = settled n a (state bank (b .beside)) _ (λ b′. (a ≡ done) × ((x : List ℕ) × OneMember (Stored built-in rec) x × (b′ ≡ with-both b k x)))
+      (by-map n a _ _ _ _ (unchanged bank) (λ z d. d) (rw size-flat at (w .put)))
+      (λ z d. let x = d .1 .0 in let one = d .1 .1 in
+      (with-both b k x, (d .0, (x, one, refl)), landed (with-both b k x) bank (put-at k (put-none (many b) k (length rec) z .1) x bank (d .1 .2)) (each-set 45 (b .held) k x long (one .0 .block .long)))) in
+      (v .0, (refl, v .1), v .2)
 
-  report-next : (z : ℕ) (r : Tally) → ReportBy z (flat (b .held)) (b .marks) r → ReportBook z b r
-  report-next zero r (f, w, e) =
-      let n : blocks (flat (b .held)) ≡ length (b .held) = omega (arith, size-flat) in
-      let w′ = rw n at w in
-      (f, (λ k h. rw (block-flat 45 (b .held) k long h) at (w′ k h)), rw n at e)
-  report-next (suc z) r e = e
+  get-next : (k : ℕ) (out : List ℕ) (a : Answer) (bank out′ : List ℕ) → GetDone (flat (b .held)) k (marks-of b) out a bank out′ → Next (get k out) a out′ (state bank (b .beside))
+  unfolding Next
+  get-next k out a bank out′ w =
+      let n = get-cause (size b) k (marks-of b) (length out) in
+      (b, (refl, by-map n a _ _ _ _ (λ u. u) (λ z d. rw (read-at k (get-none (many b) k (marks-of b) (length out) z .1)) at d) (rw size-flat at (w .output))), landed b bank (w .kept) long)
 
-  -- the four calls on the marks
-  mark-next : (z : ℕ) (new : Marks)
-      → (r : Marking) × MarkDone z new (b .marks) r × (s .answer ≡ did (r .answer)) × (s .output ≡ []) × (s .bank ≡ flat (b .held)) × (s .marks ≡ r .marks)
-      → (b′ : Book) × ((s .answer ≡ did (outcome z)) × (s .output ≡ []) × (b′ ≡ with-marks b (unless-refused z new (b .marks)))) × Shows s b′
-  mark-next z new (r, w, a, o, e, m) = (_, (a ∙ ap did (w .0), o, refl), record { bytes = e; marks = m ∙ w .1; long = long })
+  patrol-next : (k : ℕ) (a : Answer) (bank : List ℕ) → PatrolDone (flat (b .held)) k (marks-of b) a bank → Next (patrol k) a [] (state bank (b .beside))
+  unfolding PatrolDone Next
+  patrol-next k a bank w =
+      let n = patrol-cause (size b) k (marks-of b) in
+      let v = settled n a (state bank (b .beside)) _ (λ b′. (x : List ℕ) × ReadsUnder (marks-of b) (held-at b k) (held-at b k) a x × (b′ ≡ with-held b k x))
+      (by-map n a _ _ _ _ (unchanged bank) (λ z d. d) (rw size-flat at w))
+      (λ z d. let inside = patrol-none (many b) k (marks-of b) z .0 in
+      let r = rw (read-at k inside) at (d .1) in
+      (with-held b k (d .0), (d .0, r, refl), landed (with-held b k (d .0)) bank (put-at k inside (d .0) bank (d .2)) (each-set 45 (b .held) k (d .0) long (output-long (marks-of b) (held-at b k) (held-at b k) a (d .0) r (each-at 45 (b .held) k long inside))))) in
+      (v .0, (refl, v .1), v .2)
+
+  report-next : (a : Answer) (bank : List ℕ) → ReportDone (flat (b .held)) (marks-of b) a bank → Next report a [] (state bank (b .beside))
+  unfolding Next
+  report-next a bank w =
+      let n = report-cause (size b) (marks-of b) in
+      let e : size b / 45 ≡ many b = omega arith in
+      (b, (refl, refl, by-map n a _ _ _ _ (λ u. u) (λ z d. (d .0, (λ k h. rw (read-at k h) at (d .1 k (rw e h))), rw e at (d .2))) (rw size-flat at (w .answer))), landed b bank (w .kept) long)
+
+  mark-next : (c : MarkCall) (a : Answer) (m : Marks) → MarkDone (marks-of b) c a m → Next (mark c) a [] (state (flat (b .held)) (beside-of m))
+  unfolding MarkDone Next
+  mark-next c a m w =
+      let n = mark-cause (marks-of b) c in
+      let v = settled n a (state (flat (b .held)) (beside-of m)) _ (λ b′. (a ≡ done) × (b′ ≡ with-marks b (marked (marks-of b) c)))
+      (by-map n a _ _ _ _ (λ u. ap (λ (x : Marks). state (flat (b .held)) (beside-of x)) u) (λ z d. d) w)
+      (λ z d. (with-marks b (marked (marks-of b) c), (d .0, refl), record { state = ap (λ (x : Marks). state (flat (b .held)) (beside-of x)) (d .1); long = long })) in
+      (v .0, (refl, v .1), v .2)
 
   -- byte j of block k is set
-  hit-next : s .marks ≡ b .marks → (k j x : ℕ) → k < length (b .held) → j < 45 → s .bank ≡ set (flat (b .held)) (45 * k + j) x
-      → Shows s (with-held b k (set (held-at b k) j x))
-  hit-next m k j x h l e = record {
-    bytes = e ∙ hit-flat 45 (b .held) k j x long h l;
-    marks = m;
-    long = each-set 45 (b .held) k _ long (length-set (held-at b k) j x ∙ each-at 45 (b .held) k long h);
-  }
-
-  step : (e : Entry) → Called (flat (b .held)) (b .marks) e s → (b′ : Book) × Says b e (s .answer) (s .output) b′ × Shows s b′
-  unfolding ClearDone PutDone GetDone PatrolDone ReportDone
-  step clear (r, w, a, o, m) =
-      let w′ = rw size-flat at w in
-      (_, (a ∙ ap did (w′ .0), o, refl), clear-next m (clear-cause (size b)) (w′ .1))
-  step (put k rec) (r, w, a, o, m) =
-      let w′ = rw size-flat at w in
-      let c = put-cause (size b) k (length rec) in
-      let n = put-next m c k rec (λ z. put-none (length (b .held)) k (length rec) z .1) (w′ .1) in
-      (n .0, (a ∙ ap did (w′ .0), o, n .1), n .2)
-  step (get k out) (r, w, a, e, m) =
-      let c = get-cause (size b) k (b .marks) (length out) in
-      let n = get-next c k out r (λ z. get-none (length (b .held)) k (b .marks) (length out) z .1) (rw size-flat at w) in
-      (b, (r, a, n, refl), stays m e)
-  step (patrol k) (r, w, a, o, m) =
-      let c = patrol-cause (size b) k (b .marks) in
-      let n = patrol-next m c k r (λ z. patrol-none (length (b .held)) k (b .marks) z .0) (rw size-flat at w) in
-      (n .0, (r, a, o, n .1), n .2)
-  step report (r, w, a, o, e, m) = (b, (r, a, o, report-next (report-cause (size b) (b .marks)) r (rw size-flat at w), refl), stays m e)
-  step (place-chip p) c = mark-next (place-chip-cause (b .marks) p) (with-chip (b .marks) p) c
-  step (lift-chip p) c = mark-next (lift-chip-cause (b .marks) p) (without-chip (b .marks) p) c
-  step (place-card j) c = mark-next (place-card-cause (b .marks) j) (with-card (b .marks) (Card j)) c
-  step lift-card c = mark-next (lift-card-cause (b .marks)) (with-card (b .marks) None) c
-  step (hit i x) (h, v, e, a, o, m) =
+  hit-next : (i x : ℕ) → i < size b → Landed (with-held b (i / 45) (set (held-at b (i / 45)) (i % 45) x)) (state (set (flat (b .held)) i x) (b .beside))
+  hit-next i x h =
+      let k = i / 45 in
+      let inside : i / 45 < many b = omega arith in
       let at : i ≡ 45 * (i / 45) + i % 45 = omega arith in
-      (_, (a, o, refl), hit-next m (i / 45) (i % 45) x (omega (arith, size-flat)) (omega arith) (e ∙ ap (λ (p : ℕ). set (flat (b .held)) p x) at))
+      landed (with-held b (i / 45) (set (held-at b (i / 45)) (i % 45) x)) (set (flat (b .held)) i x)
+      (ap (λ (p : ℕ). set (flat (b .held)) p x) at ∙ hit-flat 45 (b .held) (i / 45) (i % 45) x long inside (omega arith))
+      (each-set 45 (b .held) (i / 45) _ long (length-set (held-at b (i / 45)) (i % 45) x ∙ each-at 45 (b .held) (i / 45) long inside))
+
+  booked : (c : Call) (a : Answer) (out : List ℕ) (τ : State) (s : Seen) → s ≡ seen (says a) out τ → Next c a out τ
+      → (b′ : Book) × Step b (call c) s b′ × EachLong 45 (b′ .held)
+  unfolding Next
+  booked c a out τ s e v = rw e (v .0, record { says = (a, refl, v .1); after = v .2 .state }, v .2 .long)
+
+  call-step : (c : Call) (s : Seen) → CallDone (state-of b) c s → (b′ : Book) × Step b (call c) s b′ × EachLong 45 (b′ .held)
+  call-step clear s (a, bank, w, e) = booked clear a [] _ s e (clear-next a bank w)
+  call-step (put k rec) s (a, bank, rec′, w, e) = booked (put k rec) a [] _ s e (put-next k rec a bank rec′ w)
+  call-step (get k out) s (a, bank, out′, w, e) = booked (get k out) a out′ _ s e (get-next k out a bank out′ w)
+  call-step (patrol k) s (a, bank, w, e) = booked (patrol k) a [] _ s e (patrol-next k a bank w)
+  call-step report s (a, bank, w, e) = booked report a [] _ s e (report-next a bank w)
+  call-step (mark c) s (a, m, w, e) = booked (mark c) a [] _ s e (mark-next c a m w)
+
+  pub step : (e : Entry) (s : Seen) → EntryDone (state-of b) e s → (b′ : Book) × Step b e s b′ × EachLong 45 (b′ .held)
+  step (call c) s w = call-step c s w
+  step (hit i x) s (h, v, e) =
+      let n = hit-next i x (rw size-flat at h) in
+      rw e (with-held b (i / 45) (set (held-at b (i / 45)) (i % 45) x), record { says = (refl, refl, refl); after = n .state }, n .long)
 
 -- ---- any list
-whole-from : (b : Book) (bank : List ℕ) (m : Marks) (es : List Entry) (ss : List Seen) → Agree bank m b → Ran bank m es ss → (b′ : Book) × Booked b es ss b′
-whole-from b bank m [] [] a Ran.end = (b, Booked.end)
-whole-from b bank m (e ∷ es) (s ∷ ss) a (Ran.then c r) =
-    let n = step b (a .long) s e (subst₂ (λ (d : List ℕ) (k : Marks). Called d k e s) (a .bytes) (a .marks) c) in
-    let w = whole-from (n .0) (s .bank) (s .marks) es ss (n .2) r in
-    (w .0, Booked.then (record { says = n .1; bank = n .2 .bytes; marks = n .2 .marks }) (w .1))
+whole-from : (b : Book) → EachLong 45 (b .held) → (σ : State) → σ ≡ state-of b → (es : List Entry) (ss : List Seen) → Ran σ es ss → (b′ : Book) × Booked b es ss b′
+whole-from b long σ i [] [] Ran.end = (b, Booked.end)
+whole-from b long σ i (e ∷ es) (s ∷ ss) (Ran.then c r) =
+    let n = step b long e s (subst (λ (τ : State). EntryDone τ e s) i c) in
+    let w = whole-from (n .0) (n .2) (s .after) (n .1 .after) es ss r in
+    (w .0, Booked.then (n .1) (w .1))
 
 pub whole : WholeList
-whole n lo hi es ss r = whole-from (fresh-book n) (replicate (45 * n) 0) fresh-marks es ss
-    (record { bytes = replicate-flat 45 n 0; marks = refl; long = each-replicate 45 n zeros refl }) r
+whole n lo hi es ss r = whole-from (fresh-book n) (each-replicate 45 n zeros refl) (fresh-state n)
+    (ap (λ (l : List ℕ). state l (beside-of fresh-marks)) (replicate-flat 45 n 0)) es ss r

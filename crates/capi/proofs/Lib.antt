@@ -1,1 +1,5 @@
-pub mod Coded
+pub mod Codes
+pub mod Gives
+pub mod Written
+pub mod Told
+pub mod Tied

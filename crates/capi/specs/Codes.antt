@@ -1,52 +1,81 @@
--- Answers and marks as numbers and bytes, for C.
+-- Answers as codes, for C, and the codes taken apart as the functions of livomashen.h do.
 --
---   reading-code r     bits 0 to 7 the number of document 01; 8 to 15 the kind (0 clean, 1 chips, 2 card); 16 to 23 the card; 24 to 31 n
---   tally-code r       bits 0 to 7 the number; from bit 8 the five totals of 11 bits each: clean, chips, card, none, several
---   marks-in b         the mark record in four bytes; bytes of another length are a record outside its ranges
-use Prim.Native.Nat.{ℕ, _+_, _*_}
-use mathlib.Core.List.{List}
+--   code a      bits 0 to 7 the number; 8 to 15 the kind (0 clean, 1 chips, 2 card); 16 to 23 the card; 24 to 31 n.
+--               Of a report: bits 0 to 7 the number; from bit 8 the totals, 11 bits each: clean, chips, card, none, several
+--   bits i l c  the l bits of c from bit i on: C's shift by i, and its mask
+--   number-in, kind-in, card-in, n-in                        livomashen_split_answer
+--   number-in, clean-in, chips-in, cards-in, none-in, several-in   livomashen_split_report
+--   outcome-in, reading-in, report-in   the answer that the parts of a code tell: of a call that is done or refused, of a reading, of a report
+use Prim.Native.Nat.{ℕ, _+_, _*_, _/_, _%_, _^_}
 use lib.Dec.{eqb}
-use lib.ListN.{length}
-use Rattle.refusal.specs.Refusal.{if}
-use Rattle.marks.specs.Marks.{of-bytes}
-use Rattle.marks.specs.declared.CardMark.the-variants.{None}
-use Rattle.marks.specs.declared.Marks.{Marks}
-use Rattle.reading.specs.Reading.{number}
-use Rattle.reading.specs.declared.Kind.{Kind}
-use Rattle.reading.specs.declared.Kind.the-variants.{Clean, Chips, OneCard}
-use Rattle.reading.specs.declared.Reading.{Reading}
-use Rattle.reading.specs.declared.Reading.the-variants.{Corrected, Nothing, Several, Refused}
-use Rattle.bank.specs.declared.Tally.{Tally}
-use Rattle.bank.specs.declared.Tally.the-variants.{Counted, Refused as NotCounted}
-use Rattle.bank.specs.declared.Totals.{Totals}
+use Rattle.base.specs.Base.{if}
+use Rattle.answer.specs.Answer.{Answer, done, clean, in-chips, in-card, counted, refused, refused-card}
 
+-- ---- the code of an answer
 abbrev pub packed : ℕ → ℕ → ℕ → ℕ → ℕ
-packed number kind card n = number + 256 * kind + 65536 * card + 16777216 * n
+packed number kind card n = number + 2 ^ 8 * kind + 2 ^ 16 * card + 2 ^ 24 * n
 
-abbrev pub kind-code : Kind → ℕ
-kind-code Clean = packed 0 0 0 0
-kind-code (Chips n) = packed 0 1 0 n
-kind-code (OneCard j n) = packed 0 2 j n
+abbrev pub packed-totals : ℕ → ℕ → ℕ → ℕ → ℕ → ℕ
+packed-totals v w x y z = 2 ^ 8 * v + 2 ^ 19 * w + 2 ^ 30 * x + 2 ^ 41 * y + 2 ^ 52 * z
 
-abbrev pub reading-code : Reading → ℕ
-reading-code (Corrected kind) = kind-code kind
-reading-code Nothing = packed 10 0 0 0
-reading-code (Several j) = packed 11 0 j 0
-reading-code (Refused n) = packed n 0 0 0
+-- a part that the answer has not is 0
+abbrev pub code : Answer → ℕ
+code done = packed 0 0 0 0
+code clean = packed 0 0 0 0
+code (in-chips n) = packed 0 1 0 n
+code (in-card j n) = packed 0 2 j n
+code (counted v w x y z) = packed-totals v w x y z
+code (refused n) = packed n 0 0 0
+code (refused-card n j) = packed n 0 j 0
 
-abbrev pub totals-code : Totals → ℕ
-totals-code t = 256 * (t .clean + 2048 * (t .chips + 2048 * (t .card + 2048 * (t .none + 2048 * t .several))))
+-- ---- a code taken apart
+abbrev pub bits : ℕ → ℕ → ℕ → ℕ
+bits i l c = c / 2 ^ i % 2 ^ l
 
-abbrev pub tally-code : Tally → ℕ
-tally-code (Counted t) = totals-code t
-tally-code (NotCounted n) = n
+abbrev pub number-in : ℕ → ℕ
+number-in c = bits 0 8 c
 
-abbrev pub no-record : Marks
-no-record = record { card = None; count = 255; first = 255; second = 255 }
+abbrev pub kind-in : ℕ → ℕ
+kind-in c = bits 8 8 c
 
-unfoldable pub marks-in : List ℕ → Marks
-marks-in b = if (eqb (length b) 4) (of-bytes b) no-record
+abbrev pub card-in : ℕ → ℕ
+card-in c = bits 16 8 c
 
--- lent bytes after a call on the record in them: those of the new record where there are four
-abbrev pub written : List ℕ → List ℕ → List ℕ
-written new old = if (eqb (length old) 4) new old
+abbrev pub n-in : ℕ → ℕ
+n-in c = bits 24 8 c
+
+abbrev pub clean-in : ℕ → ℕ
+clean-in c = bits 8 11 c
+
+abbrev pub chips-in : ℕ → ℕ
+chips-in c = bits 19 11 c
+
+abbrev pub cards-in : ℕ → ℕ
+cards-in c = bits 30 11 c
+
+abbrev pub none-in : ℕ → ℕ
+none-in c = bits 41 11 c
+
+abbrev pub several-in : ℕ → ℕ
+several-in c = bits 52 11 c
+
+-- ---- the answer that the parts tell
+-- what is told where the number is 0, and where it is not
+unfoldable pub by-number : ℕ → Answer → Answer → Answer
+by-number n a b = if (eqb n 0) a b
+
+unfoldable pub corrected-as : ℕ → ℕ → ℕ → Answer
+corrected-as kind j n = if (eqb kind 0) clean (if (eqb kind 1) (in-chips n) (in-card j n))
+
+-- "with 11, one that fits"
+unfoldable pub refused-as : ℕ → ℕ → Answer
+refused-as n j = if (eqb n 11) (refused-card n j) (refused n)
+
+unfoldable pub outcome-in : ℕ → Answer
+outcome-in c = by-number (number-in c) done (refused (number-in c))
+
+unfoldable pub reading-in : ℕ → Answer
+reading-in c = by-number (number-in c) (corrected-as (kind-in c) (card-in c) (n-in c)) (refused-as (number-in c) (card-in c))
+
+unfoldable pub report-in : ℕ → Answer
+report-in c = by-number (number-in c) (counted (clean-in c) (chips-in c) (cards-in c) (none-in c) (several-in c)) (refused (number-in c))

@@ -1,41 +1,59 @@
--- The exports' contracts: each is the library's own, with the answer as its code and the marks as their bytes.
+-- The exports' contracts: what the library's own call says of its answer, the code of that answer, and every lent byte after it.
+--
+--   Coded Says c             c is the code of an answer of which the call says so
+--   CodedUnder Says m c m′   the same, of a call under the mark record in the bytes m, which are as before
+--   StoreCoded, ReadCoded, ClearCoded, PutCoded, GetCoded, PatrolCoded, ReportCoded
+--   MarkCoded                placing and lifting, in the bytes themselves
+--
+-- A primed name is what the bytes hold after the call.
 use mathlib.Core.Path.{_≡_}
 use mathlib.Core.List.{List}
 use Prim.Native.Nat.{ℕ}
-use Rattle.refusal.specs.Refusal.{number, unless-refused}
-use Rattle.refusal.specs.declared.Outcome.{Outcome}
-use Rattle.marks.specs.Marks.{bytes}
-use Rattle.marks.specs.Place.{MarkDone}
+use Rattle.answer.specs.Answer.{Answer, done, By}
+use Rattle.marks.specs.Marks.{bytes, marks-in}
+use Rattle.marks.specs.Mark.{mark-cause, marked}
 use Rattle.marks.specs.declared.Marks.{Marks}
-use Rattle.marks.specs.declared.Marking.{Marking}
-use Rattle.reading.specs.declared.Reading.{Reading}
+use Rattle.marks.specs.declared.MarkCall.{MarkCall}
 use Rattle.store.specs.Store.{StoreDone}
-use Rattle.read.specs.Read.{ReadDone}
+use Rattle.block.specs.Read.{ReadDone}
 use Rattle.bank.specs.Calls.{ClearDone, PutDone, GetDone, PatrolDone, ReportDone}
-use Rattle.bank.specs.declared.Tally.{Tally}
-use Rattle.capi.specs.Codes.{reading-code, tally-code, marks-in}
+use Rattle.capi.specs.Codes.{code}
 
-abbrev pub StoreCoded : List ℕ → List ℕ → ℕ → List ℕ → Type 0
-StoreCoded rec out c out′ = (r : Outcome) × StoreDone rec out r out′ × (c ≡ number r)
+pub record Coded (Says : Answer → Type 0) (c : ℕ) : Type 0 where
+  pub answer : Answer
+  pub says : Says answer
+  pub coded : c ≡ code answer
 
-abbrev pub ReadCoded : List ℕ → List ℕ → List ℕ → ℕ → List ℕ → Type 0
-ReadCoded block marks out c out′ = (r : Reading) × ReadDone block (marks-in marks) out r out′ × (c ≡ reading-code r)
+pub record CodedUnder (Says : Marks → Answer → Type 0) (m : List ℕ) (c : ℕ) (m′ : List ℕ) : Type 0 where
+  pub marks : Marks
+  pub in-bytes : marks ≡ marks-in m
+  pub kept : m′ ≡ m
+  pub coded : Coded (Says marks) c
+
+abbrev pub StoreCoded : List ℕ → List ℕ → ℕ → List ℕ → List ℕ → Type 0
+StoreCoded rec out c rec′ out′ = Coded (λ a. StoreDone rec out a rec′ out′) c
+
+abbrev pub ReadCoded : List ℕ → List ℕ → List ℕ → ℕ → List ℕ → List ℕ → List ℕ → Type 0
+ReadCoded b m out c b′ m′ out′ = CodedUnder (λ n a. ReadDone b n out a b′ out′) m c m′
 
 abbrev pub ClearCoded : List ℕ → ℕ → List ℕ → Type 0
-ClearCoded bank c bank′ = (r : Outcome) × ClearDone bank r bank′ × (c ≡ number r)
+ClearCoded bank c bank′ = Coded (λ a. ClearDone bank a bank′) c
 
-abbrev pub PutCoded : List ℕ → ℕ → List ℕ → ℕ → List ℕ → Type 0
-PutCoded bank k rec c bank′ = (r : Outcome) × PutDone bank k rec r bank′ × (c ≡ number r)
+abbrev pub PutCoded : List ℕ → ℕ → List ℕ → ℕ → List ℕ → List ℕ → Type 0
+PutCoded bank k rec c bank′ rec′ = Coded (λ a. PutDone bank k rec a bank′ rec′) c
 
-abbrev pub GetCoded : List ℕ → ℕ → List ℕ → List ℕ → ℕ → List ℕ → Type 0
-GetCoded bank k marks out c out′ = (r : Reading) × GetDone bank k (marks-in marks) out r out′ × (c ≡ reading-code r)
+abbrev pub GetCoded : List ℕ → ℕ → List ℕ → List ℕ → ℕ → List ℕ → List ℕ → List ℕ → Type 0
+GetCoded bank k m out c bank′ m′ out′ = CodedUnder (λ n a. GetDone bank k n out a bank′ out′) m c m′
 
-abbrev pub PatrolCoded : List ℕ → ℕ → List ℕ → ℕ → List ℕ → Type 0
-PatrolCoded bank k marks c bank′ = (r : Reading) × PatrolDone bank k (marks-in marks) r bank′ × (c ≡ reading-code r)
+abbrev pub PatrolCoded : List ℕ → ℕ → List ℕ → ℕ → List ℕ → List ℕ → Type 0
+PatrolCoded bank k m c bank′ m′ = CodedUnder (λ n a. PatrolDone bank k n a bank′) m c m′
 
-abbrev pub ReportCoded : List ℕ → List ℕ → ℕ → Type 0
-ReportCoded bank marks c = (r : Tally) × ReportDone bank (marks-in marks) r × (c ≡ tally-code r)
+abbrev pub ReportCoded : List ℕ → List ℕ → ℕ → List ℕ → List ℕ → Type 0
+ReportCoded bank m c bank′ m′ = CodedUnder (λ n a. ReportDone bank n a bank′) m c m′
 
--- placing and lifting: the record's four bytes after it; a refused call leaves them
-abbrev pub MarkCoded : ℕ → Marks → List ℕ → ℕ → List ℕ → Type 0
-MarkCoded cause new marks c marks′ = (c ≡ cause) × (marks′ ≡ unless-refused cause (bytes new) marks)
+-- the bytes of the record after the call; a refused call leaves them, however many they are
+abbrev pub Marked : List ℕ → MarkCall → Answer → List ℕ → Type 0
+Marked m call a m′ = By (mark-cause (marks-in m) call) a (m′ ≡ m) ((a ≡ done) × (m′ ≡ bytes (marked (marks-in m) call)))
+
+abbrev pub MarkCoded : List ℕ → MarkCall → ℕ → List ℕ → Type 0
+MarkCoded m call c m′ = Coded (λ a. Marked m call a m′) c

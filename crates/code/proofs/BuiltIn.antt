@@ -1,20 +1,22 @@
--- The built-in labels: those that document 01 quotes, and the property of the 36 sums.
-use mathlib.Core.Logic.{_≢_, _⊎_, inl, inr}
-use mathlib.Core.Path.{_≡_, refl, sym, ap, _∙_, subst}
+-- The built-in labels: those that document 01 quotes, and its property of the 36 sums.
+--
+--   figures          the 45 labels in figures; in-figures: the labels are these
+--   quoted           the seven labels that document 01 prints
+--   figures-set, built-in-set   for every card the 36 sums are nonzero and all different
+use mathlib.Core.Logic.{_≢_}
+use mathlib.Core.Path.{_≡_, refl, sym, subst}
 use mathlib.Core.Bool.{Bool, not}
 use mathlib.Core.List.{List, [], _∷_}
-use Prim.Native.Nat.{ℕ, _+_, _*_, _/_, _%_, _<_}
+use Prim.Native.Nat.{ℕ, _/_, _<_}
 use native.Mathlib.Decide.{decLt}
 use native.Mathlib.Omega.{arith}
 use lib.Dec.{T, T-not, eqb, eqb-refl, ltb, ltb→lt}
 use borrow.Author.Tests.{ne-eqb}
-use lib.ListN.{length}
-use Rattle.field.specs.Field.{_⊕_, polynomial-product, remainder, product, power}
-use Rattle.field.proofs.Tests.{both, either, every, both-left, both-right, every-at}
-use Rattle.code.specs.Block.{byte, position, Block, block-of}
-use Rattle.code.specs.Labels.{label, built-in, entry, Separated, LabelSet}
+use Rattle.field.specs.Field.{_⊕_, sum, polynomial-product, remainder, product, power}
+use Rattle.base.proofs.Tests.{both, either, every, both-left, both-right, every-at}
+use Rattle.code.specs.Block.{byte, position, block-of}
+use Rattle.code.specs.Labels.{label, built-in, entry, LabelSet}
 
--- the 45 labels in figures
 unfoldable pub figures : List ℕ
 figures =
     1 ∷ 2 ∷ 4 ∷ 8 ∷ 16 ∷ 32 ∷ 64 ∷ 128 ∷ 29
@@ -24,13 +26,13 @@ figures =
     ∷ 153 ∷ 47 ∷ 94 ∷ 188 ∷ 101 ∷ 202 ∷ 137 ∷ 15 ∷ 30 ∷ []
 
 pub in-figures : built-in ≡ figures
-unfolding built-in block-of figures power product remainder polynomial-product _⊕_
+unfolding built-in block-of figures power product remainder polynomial-product sum _⊕_
 in-figures = refl
 
 -- document 01: "The five labels of chip 0 are 1, 152, 78, 10, 153. Chip 8 of card 0 has 29 and chip 8 of card 1 has 3."
-pub quoted : (label (position 0 0) ≡ 1) × (label (position 1 0) ≡ 152) × (label (position 2 0) ≡ 78) × (label (position 3 0) ≡ 10) × (label (position 4 0) ≡ 153)
-    × (label (position 0 8) ≡ 29) × (label (position 1 8) ≡ 3)
-unfolding power product remainder polynomial-product _⊕_
+pub quoted : (label (position 0 0) ≡ 1) × (label (position 1 0) ≡ 152) × (label (position 2 0) ≡ 78) × (label (position 3 0) ≡ 10)
+    × (label (position 4 0) ≡ 153) × (label (position 0 8) ≡ 29) × (label (position 1 8) ≡ 3)
+unfolding power product remainder polynomial-product sum _⊕_
 quoted = (refl, refl, refl, refl, refl, refl, refl)
 
 -- ---- the 36 sums of each card, by a test
@@ -57,7 +59,8 @@ module _ (ls : List ℕ) (ok : T (every (λ j. every (λ p. fresh ls j p) 45) 5)
   at-place : (p : ℕ) → p < 45 → p / 9 ≢ j → T (both (not (eqb (entry ls j p) 0)) (later p))
   unfolding fresh
   at-place p hp ne =
-      unless (p / 9) j (both (not (eqb (entry ls j p) 0)) (later p)) ne (every-at (λ p. fresh ls j p) 45 (every-at (λ j. every (λ p. fresh ls j p) 45) 5 ok j hj) p hp)
+      unless (p / 9) j (both (not (eqb (entry ls j p) 0)) (later p)) ne
+      (every-at (λ p. fresh ls j p) 45 (every-at (λ j. every (λ p. fresh ls j p) 45) 5 ok j hj) p hp)
 
   nonzero : (p : ℕ) → p < 45 → p / 9 ≢ j → entry ls j p ≢ 0
   nonzero p hp ne = differ (entry ls j p) 0 (both-left (not (eqb (entry ls j p) 0)) (later p) (at-place p hp ne))
@@ -66,7 +69,8 @@ module _ (ls : List ℕ) (ok : T (every (λ j. every (λ p. fresh ls j p) 45) 5)
   earlier q p l hp nq np =
       differ (entry ls j q) (entry ls j p)
       (unless (q / 9) j (not (eqb (entry ls j q) (entry ls j p))) nq
-      (every-at (λ q. either (eqb (q / 9) j) (not (eqb (entry ls j q) (entry ls j p)))) p (both-right (not (eqb (entry ls j p) 0)) (later p) (at-place p hp np)) q l))
+      (every-at (λ q. either (eqb (q / 9) j) (not (eqb (entry ls j q) (entry ls j p)))) p
+      (both-right (not (eqb (entry ls j p) 0)) (later p) (at-place p hp np)) q l))
 
   different : (p q : ℕ) → p < 45 → q < 45 → p / 9 ≢ j → q / 9 ≢ j → p ≢ q → entry ls j p ≢ entry ls j q
   different p q hp hq np nq ne = pick (decLt p q)

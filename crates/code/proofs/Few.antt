@@ -1,25 +1,124 @@
--- Any two chips, and the marked ones: those on card j drop out. Two lawful blocks that differ in one card and two chips are one.
+-- Lists of chips, and changes within a set of positions.
+--
+--   member           a position is in a list or not
+--   few-in           chips are positions; few-once: none stands twice; few-length: there are at most n; few-more: a larger n
+--   few-one, few-two one chip, and two that differ
+--   few-of           of any list the positions, each once (Positions)
+--   beside-one, beside-two    one chip off card j, and two that differ; off-in, beside-in: what holds of each
+--   in-keep, keep-in what is kept; keep-few, keep-off, keep-beside: it is few, and off card j
+--   kept, all-kept   card j and the chips ps are card j and what is kept of them
+--   widen            a change within P is one within Q
+--   between          the difference of what two changes lead to
 use mathlib.Core.Logic.{_≢_, _⊎_, inl, inr}
-use mathlib.Core.Path.{_≡_, refl, sym, ap, ap₂, _∙_, subst}
+use mathlib.Core.Path.{_≡_, refl, sym, ap, _∙_, subst}
 use mathlib.Core.Bool.{Bool, true, false}
 use mathlib.Core.List.{List, [], _∷_}
-use Prim.Native.Nat.{ℕ, zero, suc, _+_, _*_, _/_, _%_, _^_, _<_, _≤_}
+use Prim.Native.Nat.{ℕ, zero, suc, _/_, _<_, _≤_}
+use native.Mathlib.Decide.{decLt}
 use native.Mathlib.Omega.{arith}
-use lib.Dec.{T, eqb}
-use borrow.Author.Tests.{eqb-true, eqb-false, eq-eqb, ne-eqb}
-use Rattle.field.proofs.Tests.{same}
-use Rattle.code.specs.Labels.{LabelSet}
-use Rattle.code.proofs.Distance as dist
-use Rattle.code.specs.Block.{byte, Block, Lawful, DifferOnly}
-use Rattle.code.specs.Reach.{In, Few, unless, keep, Off, Reached}
-use Rattle.code.proofs.Reach.{fits, closed, candidate, reached}
+use lib.Dec.{eqb}
+use lib.ListN.{length}
+use borrow.Author.Tests.{eqb-true, eqb-false}
+use Rattle.base.specs.Base.{if, In, is-in}
+use Rattle.base.proofs.Lists.{in-is-in, is-in-in}
+use Rattle.base.proofs.Tally.{clash}
+use Rattle.field.proofs.Sum.{Once}
+use Rattle.code.specs.Block.{byte, DifferOnly}
+use Rattle.code.specs.Reach.{rules, Few, Off, Beside, keep}
+
+pub member : (p : ℕ) (l : List ℕ) → In p l ⊎ (In p l → ⊥)
+member p l = go (is-in p l) refl
+  where
+    go : (t : Bool) → is-in p l ≡ t → In p l ⊎ (In p l → ⊥)
+    go true e = inl (is-in-in p l e)
+    go false e = inr (λ i. clash (is-in p l) (in-is-in p l i) e)
+
+-- ---- few chips
+pub few-in : (n : ℕ) (ps : List ℕ) → Few n ps → (p : ℕ) → In p ps → p < 45
+few-in n [] few p i = absurd i
+few-in zero (q ∷ ps) few p i = absurd few
+few-in (suc n) (q ∷ ps) few p (inl e) = subst (λ (z : ℕ). z < 45) (sym e) (few .0)
+few-in (suc n) (q ∷ ps) few p (inr i) = few-in n ps (few .2) p i
+
+pub few-once : (n : ℕ) (ps : List ℕ) → Few n ps → Once ps
+few-once n [] few = tt
+few-once zero (q ∷ ps) few = absurd few
+few-once (suc n) (q ∷ ps) few = (few .1, few-once n ps (few .2))
+
+pub few-length : (n : ℕ) (ps : List ℕ) → Few n ps → length ps ≤ n
+few-length n [] few = omega arith
+few-length zero (q ∷ ps) few = absurd few
+few-length (suc n) (q ∷ ps) few = omega (arith, few-length n ps (few .2))
+
+pub few-more : (n m : ℕ) (ps : List ℕ) → n ≤ m → Few n ps → Few m ps
+few-more n m [] h few = tt
+few-more zero m (q ∷ ps) h few = absurd few
+few-more (suc n) zero (q ∷ ps) h few = absurd (omega arith)
+few-more (suc n) (suc m) (q ∷ ps) h few = (few .0, few .1, few-more n m ps (omega arith) (few .2))
+
+pub few-one : (p : ℕ) → p < 45 → Few rules (p ∷ [])
+few-one p l = (l, (λ i. i), tt)
+
+pub few-two : (p q : ℕ) → p < 45 → q < 45 → p ≢ q → Few rules (p ∷ q ∷ [])
+few-two p q hp hq ne = (hp, other, few-one q hq)
+  where
+    other : (p ≡ q) ⊎ ⊥ → ⊥
+    other (inl e) = ne e
+    other (inr z) = z
+
+-- the positions of l, each once
+abbrev pub Positions : List ℕ → Type 0
+Positions l = (ps : List ℕ) × Few (length l) ps × ((p : ℕ) → p < 45 → In p l → In p ps)
+
+pub few-of : (l : List ℕ) → Positions l
+few-of [] = ([], tt, λ p h i. i)
+few-of (q ∷ l) = go (few-of l) (decLt q 45)
+  where
+    -- q adds nothing, or it comes first
+    known : (w : Positions l) → (q < 45 → In q (w .0)) → Positions (q ∷ l)
+    known (ps, few, all) i = (ps, few-more (length l) (suc (length l)) ps (omega arith) few, each)
+      where
+        each : (p : ℕ) → p < 45 → (p ≡ q) ⊎ In p l → In p ps
+        each p h (inl e) = subst (λ (z : ℕ). In z ps) (sym e) (i (subst (λ (z : ℕ). z < 45) e h))
+        each p h (inr m) = all p h m
+
+    new : (w : Positions l) → q < 45 → (In q (w .0) → ⊥) → Positions (q ∷ l)
+    new (ps, few, all) h n = (q ∷ ps, (h, n, few), each)
+      where
+        each : (p : ℕ) → p < 45 → (p ≡ q) ⊎ In p l → (p ≡ q) ⊎ In p ps
+        each p z (inl e) = inl e
+        each p z (inr m) = inr (all p z m)
+
+    go : Positions l → Dec (q < 45) → Positions (q ∷ l)
+    go w (no n) = known w (λ h. absurd (n h))
+    go w (yes h) = pick (member q (w .0))
+      where
+        pick : In q (w .0) ⊎ (In q (w .0) → ⊥) → Positions (q ∷ l)
+        pick (inl i) = known w (λ z. i)
+        pick (inr n) = new w h n
+
+-- ---- off a card
+pub beside-one : (j p : ℕ) → p < 45 → p / 9 ≢ j → Beside j (p ∷ [])
+beside-one j p hp np = (few-one p hp, (np, tt))
+
+pub beside-two : (j p q : ℕ) → p < 45 → q < 45 → p / 9 ≢ j → q / 9 ≢ j → p ≢ q → Beside j (p ∷ q ∷ [])
+beside-two j p q hp hq np nq ne = (few-two p q hp hq ne, (np, (nq, tt)))
+
+pub off-in : (j : ℕ) (ps : List ℕ) → Off j ps → (p : ℕ) → In p ps → p / 9 ≢ j
+off-in j [] off p i = absurd i
+off-in j (q ∷ ps) off p (inl e) = λ z. off .0 (ap (λ (x : ℕ). x / 9) (sym e) ∙ z)
+off-in j (q ∷ ps) off p (inr i) = off-in j ps (off .1) p i
+
+pub beside-in : (j : ℕ) (ps : List ℕ) → Beside j ps → (p : ℕ) → In p ps → (p < 45) × (p / 9 ≢ j)
+beside-in j ps o p i = (few-in rules ps (o .0) p i, off-in j ps (o .1) p i)
 
 pub in-keep : (j r : ℕ) (ps : List ℕ) → In r ps → (r / 9 ≡ j) ⊎ In r (keep j ps)
 unfolding keep
 in-keep j r [] i = absurd i
 in-keep j r (p ∷ ps) i = go (eqb (p / 9) j) refl i (λ z. in-keep j r ps z)
   where
-    go : (t : Bool) → eqb (p / 9) j ≡ t → (r ≡ p) ⊎ In r ps → (In r ps → (r / 9 ≡ j) ⊎ In r (keep j ps)) → (r / 9 ≡ j) ⊎ In r (unless t p (keep j ps))
+    go : (t : Bool) → eqb (p / 9) j ≡ t → (r ≡ p) ⊎ In r ps → (In r ps → (r / 9 ≡ j) ⊎ In r (keep j ps))
+        → (r / 9 ≡ j) ⊎ In r (if t (keep j ps) (p ∷ keep j ps))
     go true e (inl q) g = inl (ap (λ (z : ℕ). z / 9) q ∙ eqb-true (p / 9) j e)
     go true e (inr q) g = g q
     go false e (inl q) g = inr (inl q)
@@ -34,29 +133,43 @@ unfolding keep
 keep-in j r [] i = absurd i
 keep-in j r (p ∷ ps) i = go (eqb (p / 9) j) i (λ z. keep-in j r ps z)
   where
-    go : (t : Bool) → In r (unless t p (keep j ps)) → (In r (keep j ps) → In r ps) → (r ≡ p) ⊎ In r ps
+    go : (t : Bool) → In r (if t (keep j ps) (p ∷ keep j ps)) → (In r (keep j ps) → In r ps) → (r ≡ p) ⊎ In r ps
     go true i g = inr (g i)
     go false (inl e) g = inl e
     go false (inr i) g = inr (g i)
 
-pub keep-off : (j : ℕ) (ps : List ℕ) → Few ps → Off j (keep j ps)
+pub keep-few : (n j : ℕ) (ps : List ℕ) → Few n ps → Few n (keep j ps)
 unfolding keep
-keep-off j [] h = tt
-keep-off j (p ∷ []) h = go (eqb (p / 9) j) refl
+keep-few n j [] few = tt
+keep-few zero j (p ∷ ps) few = absurd few
+keep-few (suc n) j (p ∷ ps) few = go (eqb (p / 9) j) (keep-few n j ps (few .2))
   where
-    go : (t : Bool) → eqb (p / 9) j ≡ t → Off j (unless t p [])
-    go true e = tt
-    go false e = (h, eqb-false (p / 9) j e)
-keep-off j (p ∷ q ∷ []) h = go (eqb (p / 9) j) (eqb (q / 9) j) refl refl
-  where
-    go : (t u : Bool) → eqb (p / 9) j ≡ t → eqb (q / 9) j ≡ u → Off j (unless t p (unless u q []))
-    go true true e d = tt
-    go true false e d = (h .1, eqb-false (q / 9) j d)
-    go false true e d = (h .0, eqb-false (p / 9) j e)
-    go false false e d = (h .0, h .1, eqb-false (p / 9) j e, eqb-false (q / 9) j d, h .2)
-keep-off j (p ∷ q ∷ r ∷ ps) h = absurd h
+    go : (t : Bool) → Few n (keep j ps) → Few (suc n) (if t (keep j ps) (p ∷ keep j ps))
+    go true h = few-more n (suc n) (keep j ps) (omega arith) h
+    go false h = (few .0, (λ i. few .1 (keep-in j p ps i)), h)
 
--- a change within P is one within Q
+pub keep-off : (j : ℕ) (ps : List ℕ) → Off j (keep j ps)
+unfolding keep
+keep-off j [] = tt
+keep-off j (p ∷ ps) = go (eqb (p / 9) j) refl (keep-off j ps)
+  where
+    go : (t : Bool) → eqb (p / 9) j ≡ t → Off j (keep j ps) → Off j (if t (keep j ps) (p ∷ keep j ps))
+    go true e h = h
+    go false e h = (eqb-false (p / 9) j e, h)
+
+pub keep-beside : (j : ℕ) (ps : List ℕ) → Few rules ps → Beside j (keep j ps)
+keep-beside j ps few = (keep-few rules j ps few, keep-off j ps)
+
+-- card j and the chips ps are card j and those that are kept
+pub kept : (j : ℕ) (ps : List ℕ) (p : ℕ) → p < 45 → (p / 9 ≡ j) ⊎ In p ps → (p / 9 ≡ j) ⊎ In p (keep j ps)
+kept j ps p l (inl e) = inl e
+kept j ps p l (inr i) = in-keep j p ps i
+
+pub all-kept : (j : ℕ) (ps : List ℕ) (p : ℕ) → p < 45 → (p / 9 ≡ j) ⊎ In p (keep j ps) → (p / 9 ≡ j) ⊎ In p ps
+all-kept j ps p l (inl e) = inl e
+all-kept j ps p l (inr i) = inr (keep-in j p ps i)
+
+-- ---- changes within a set of positions
 pub widen : (P Q : ℕ → Type 0) (b x : List ℕ) → ((p : ℕ) → p < 45 → P p → Q p) → DifferOnly P b x → DifferOnly Q b x
 widen P Q b x f h p l = go (h p l)
   where
@@ -64,7 +177,6 @@ widen P Q b x f h p l = go (h p l)
     go (inl e) = inl e
     go (inr z) = inr (f p l z)
 
--- two changes of b, and the difference of what they lead to
 pub between : (P Q : ℕ → Type 0) (b x y : List ℕ) → DifferOnly P b x → DifferOnly Q b y → DifferOnly (λ p. P p ⊎ Q p) x y
 between P Q b x y h g p l = go (h p l) (g p l)
   where
@@ -72,40 +184,3 @@ between P Q b x y h g p l = go (h p l) (g p l)
     go (inl e) (inl d) = inl (sym e ∙ d)
     go (inl e) (inr z) = inr (inr z)
     go (inr z) o = inr (inl z)
-
-module _ (ls : List ℕ) (ok : LabelSet ls) where
-  -- the candidate for any few chips
-  pub candidate-few : (j : ℕ) → j < 5 → (b : List ℕ) → Block b → (ps : List ℕ) → Few ps → (x : List ℕ) → Reached ls j ps b x
-      → T (fits ls j (keep j ps) b) × (x ≡ closed ls j (keep j ps) b)
-  candidate-few j hj b bb ps few x h =
-      candidate ls ok j hj b bb (keep j ps) (keep-off j ps few) x
-      (record { block = h .block; lawful = h .lawful; only = widen (λ p. (p / 9 ≡ j) ⊎ In p ps) (λ p. (p / 9 ≡ j) ⊎ In p (keep j ps)) b x (λ p l z. go p z) (h .only) })
-    where
-      go : (p : ℕ) → (p / 9 ≡ j) ⊎ In p ps → (p / 9 ≡ j) ⊎ In p (keep j ps)
-      go p (inl e) = inl e
-      go p (inr i) = in-keep j p ps i
-
-  pub reached-few : (j : ℕ) → j < 5 → (b : List ℕ) → Block b → (ps : List ℕ) → Few ps → T (fits ls j (keep j ps) b) → Reached ls j ps b (closed ls j (keep j ps) b)
-  reached-few j hj b bb ps few t =
-      let h = reached ls ok j hj b bb (keep j ps) (keep-off j ps few) t in
-      record { block = h .block; lawful = h .lawful; only = widen (λ p. (p / 9 ≡ j) ⊎ In p (keep j ps)) (λ p. (p / 9 ≡ j) ⊎ In p ps) b (closed ls j (keep j ps) b) (λ p l z. go p z) (h .only) }
-    where
-      go : (p : ℕ) → (p / 9 ≡ j) ⊎ In p (keep j ps) → (p / 9 ≡ j) ⊎ In p ps
-      go p (inl e) = inl e
-      go p (inr i) = inr (keep-in j p ps i)
-
--- two chips that may be one
-pub pair : (p q : ℕ) → p < 45 → q < 45 → (ps : List ℕ) × Few ps × ((r : ℕ) → (r ≡ p) ⊎ (r ≡ q) → In r ps)
-pair p q hp hq = go (same p q)
-  where
-    go : (p ≡ q) ⊎ (p ≢ q) → (ps : List ℕ) × Few ps × ((r : ℕ) → (r ≡ p) ⊎ (r ≡ q) → In r ps)
-    go (inl e) = (p ∷ [], hp, each)
-      where
-        each : (r : ℕ) → (r ≡ p) ⊎ (r ≡ q) → In r (p ∷ [])
-        each r (inl z) = inl z
-        each r (inr z) = inl (z ∙ sym e)
-    go (inr ne) = (p ∷ q ∷ [], (hp, hq, ne), each)
-      where
-        each : (r : ℕ) → (r ≡ p) ⊎ (r ≡ q) → In r (p ∷ q ∷ [])
-        each r (inl z) = inl z
-        each r (inr z) = inr (inl z)

@@ -1,8 +1,12 @@
 pub mod BuiltIn
-pub mod Sums
-pub mod Distance
-pub mod Change
-pub mod Solve
-pub mod Reach
 pub mod Few
+pub mod Eliminate
+pub mod Apart
+pub mod Card
+pub mod Solve
+pub mod Blocks
+pub mod Reach
+pub mod Closed
 pub mod Unique
+pub mod Members
+pub mod Stored

@@ -1,110 +1,112 @@
--- One and two unknowns from the two reduced sums.
-use mathlib.Core.Logic.{_≢_}
-use mathlib.Core.Path.{_≡_, refl, sym, ap, ap₂, _∙_, subst}
-use Prim.Native.Nat.{ℕ, _<_, _^_}
-use Rattle.field.specs.Field.{_⊕_, _·_}
-use Rattle.field.proofs.Xor.{add-self, zero-add, add-zero, add-lt, sums, eq-of-sum}
+-- Card j and a few chips solved for, over any field and any number r of label rules: from the block b (a function of its symbols) they
+-- reach a lawful block exactly when it fits, and then this one.
+--
+--   sums              the reduced sums of b
+--   mended ps         b with the values of the chips ps added; filled in card j it is the block that is reached
+--   mended-law        where it fits, that block is lawful
+--   mended-only       whatever lawful block differs from b only in card j and in ps is that one, and it fits
+--   law-alike         so two lawful blocks that differ only there are one
+use mathlib.Core.Logic.{_≢_, _⊎_, inl, inr}
+use mathlib.Core.Path.{_≡_, refl, sym, ap, _∙_}
+use mathlib.Core.Bool.{Bool, true, false}
+use mathlib.Core.List.{List}
+use Prim.Native.Nat.{ℕ, _/_, _<_, _^_}
+use lib.Dec.{T}
+use Rattle.base.specs.Base.{if, In, is-in}
+use Rattle.base.proofs.Lists.{in-is-in, is-in-in}
+use Rattle.base.proofs.Tally.{clash}
+use Rattle.field.specs.Field.{_⊕_}
+use Rattle.field.proofs.Xor.{add-self, add-zero, add-lt, add-self-left, eq-of-sum}
+use Rattle.field.proofs.Linear.{if-below}
+use Rattle.field.proofs.Sum.{sum-below}
 use Rattle.field.proofs.IsField.{IsField}
-use Rattle.field.proofs.Gf256.{field, inverse-of, inverse-is}
-use Rattle.field.proofs.Ring.{ring, zero-divisor}
+use Rattle.field.proofs.Squares.{squared}
+use Rattle.code.specs.Block.{byte}
+use Rattle.code.specs.Labels.{entry}
+use Rattle.code.specs.Reach.{Few}
+use Rattle.code.proofs.Few.{member, few-in, few-once}
+use Rattle.code.proofs.Eliminate.{dot, fits, values, values-off, Free, Below, solved, only}
+use Rattle.code.proofs.Card.{entry-below, red, Law, fill, fill-only, law-red, red-off, red-add, red-over, fill-law}
 
--- s divided by d
-unfoldable pub quot : ℕ → ℕ → ℕ
-quot s d = s · inverse-of d
+abbrev pub mended : (ℕ → ℕ → ℕ) → (ℕ → ℕ) → List ℕ → ℕ → (ℕ → ℕ) → List ℕ → ℕ → ℕ
+mended mul inv ls j b ps q = b q ⊕ values mul inv (entry ls j) ps (λ t. red mul ls t j b) q
 
-one : (x y : ℕ) → x ≡ 1 → y < 2 ^ 8 → x · y ≡ y
-one x y e h = ap (λ (z : ℕ). z · y) e ∙ field .one y h
+module _ (w : ℕ) (_·_ : ℕ → ℕ → ℕ) (F : IsField w _·_) (ls : List ℕ) (ls-below : (p : ℕ) → byte ls p < 2 ^ w) (r j : ℕ) (hj : j < 5) (b : ℕ → ℕ) where
+  infixl 70 _·_
+  abbrev sums : ℕ → ℕ
+  sums t = red _·_ ls t j b
 
-pub quot-below : (s d : ℕ) → quot s d < 2 ^ 8
-unfolding quot
-quot-below s d = field .below s (inverse-of d)
+  sums-below : Below w sums
+  sums-below t = sum-below w 45 (λ p. squared _·_ t (entry ls j p) · b p) (λ p. F .below (squared _·_ t (entry ls j p)) (b p))
 
-pub times-quot : (s d : ℕ) → s < 2 ^ 8 → d < 2 ^ 8 → d ≢ 0 → d · quot s d ≡ s
-unfolding quot
-times-quot s d hs hd ne =
-    let F : IsField 8 _·_ = field in
-    let k : ℕ = inverse-of d in
-    let same : d · (s · inverse-of d) ≡ (d · inverse-of d) · s = simp (ring, F) in
-    same ∙ one (d · inverse-of d) s (inverse-is d hd ne) hs
+  module _ (ps : List ℕ) (few : Few r ps) (free : Free _·_ (entry ls j) ps) where
+    abbrev change : ℕ → ℕ
+    change = values _·_ (F .inv) (entry ls j) ps sums
 
-pub quot-only : (s d e : ℕ) → d < 2 ^ 8 → e < 2 ^ 8 → d ≢ 0 → d · e ≡ s → e ≡ quot s d
-unfolding quot
-quot-only s d e hd he ne q =
-    let F : IsField 8 _·_ = field in
-    let same : (d · e) · inverse-of d ≡ (d · inverse-of d) · e = simp (ring, F) in
-    sym (one (d · inverse-of d) e (inverse-is d hd ne) he) ∙ sym same ∙ ap (λ (z : ℕ). z · inverse-of d) q
+    -- a change within ps, as a sum over ps
+    over-ps : (t : ℕ) (v : ℕ → ℕ) → ((p : ℕ) → (In p ps → ⊥) → v p ≡ 0) → red _·_ ls t j v ≡ dot _·_ t (entry ls j) ps v
+    over-ps t v off = red-over w _·_ F ls t j ps v (few-in r ps few) (few-once r ps few) off
 
--- one unknown
-pub one-forward : (d e t₁ t₂ : ℕ) → d < 2 ^ 8 → e < 2 ^ 8 → d ≢ 0
-    → t₁ ⊕ (d · e) ≡ 0 → t₂ ⊕ ((d · d) · e) ≡ 0 → (t₂ ≡ d · t₁) × (e ≡ quot t₁ d)
-one-forward d e t₁ t₂ hd he ne q₁ q₂ =
-    let F : IsField 8 _·_ = field in
-    let same : (d · d) · e ≡ d · (d · e) = simp (ring, F) in (
-      eq-of-sum t₂ ((d · d) · e) q₂ ∙ same ∙ ap (λ (z : ℕ). d · z) (sym (eq-of-sum t₁ (d · e) q₁)),
-      quot-only t₁ d e hd he ne (sym (eq-of-sum t₁ (d · e) q₁)),
-    )
+    pub mended-law : T (fits _·_ r (entry ls j) ps sums) → Law _·_ ls r (fill j (mended _·_ (F .inv) ls j b ps))
+    mended-law ok =
+        fill-law w _·_ F ls r j hj (mended _·_ (F .inv) ls j b ps)
+        (λ t l. red-add w _·_ F ls t j b change
+        ∙ ap (λ (x : ℕ). sums t ⊕ x)
+        (over-ps t change (values-off w _·_ F (entry ls j) ps sums)
+        ∙ solved w _·_ F r (entry ls j) ps sums few (entry-below w ls ls-below j) sums-below free ok t l)
+        ∙ add-self (sums t))
 
-pub one-back : (d t₁ t₂ : ℕ) → d < 2 ^ 8 → t₁ < 2 ^ 8 → d ≢ 0 → t₂ ≡ d · t₁
-    → (t₁ ⊕ (d · quot t₁ d) ≡ 0) × (t₂ ⊕ ((d · d) · quot t₁ d) ≡ 0)
-one-back d t₁ t₂ hd ht ne q =
-    let F : IsField 8 _·_ = field in
-    let same : (d · d) · quot t₁ d ≡ d · (d · quot t₁ d) = simp (ring, F) in (
-      ap (λ (z : ℕ). t₁ ⊕ z) (times-quot t₁ d ht hd ne) ∙ add-self t₁,
-      ap₂ (λ (x y : ℕ). x ⊕ y) q (same ∙ ap (λ (z : ℕ). d · z) (times-quot t₁ d ht hd ne)) ∙ add-self (d · t₁),
-    )
+    module _ (x : ℕ → ℕ) (b-below : Below w b) (x-below : Below w x) (law : Law _·_ ls r x)
+        (near : (p : ℕ) → p < 45 → (b p ≡ x p) ⊎ ((p / 9 ≡ j) ⊎ In p ps)) where
+      -- what x changes in ps
+      made : ℕ → ℕ
+      made q = if (is-in q ps) (b q ⊕ x q) 0
 
--- (sorting wants the product as a variable, not as an abbreviation)
-module _ (_∗_ : ℕ → ℕ → ℕ) (F : IsField 8 _∗_) where
-  infixl 70 _∗_
-  split : (c d e f t₂ : ℕ) → (t₂ ⊕ ((c ∗ c) ∗ e)) ⊕ ((d ∗ d) ∗ f) ≡ ((t₂ ⊕ ((c ∗ (c ⊕ d)) ∗ e)) ⊕ (d ∗ (c ∗ e))) ⊕ (d ∗ (d ∗ f))
-  split c d e f t₂ = simp (ring, F)
+      made-below : Below w made
+      unfolding made
+      made-below q = if-below w (is-in q ps) (b q ⊕ x q) 0 (add-lt w (b q) (x q) (b-below q) (x-below q)) (lib.Pow.pow-pos w)
 
--- two unknowns
-unfoldable pub first : ℕ → ℕ → ℕ → ℕ → ℕ
-first c d t₁ t₂ = quot (t₂ ⊕ (d · t₁)) (c · (c ⊕ d))
+      made-off : (p : ℕ) → (In p ps → ⊥) → made p ≡ 0
+      unfolding made
+      made-off p n = go (is-in p ps) refl
+        where
+          go : (t : Bool) → is-in p ps ≡ t → if t (b p ⊕ x p) 0 ≡ 0
+          go true e = absurd (n (is-in-in p ps e))
+          go false e = refl
 
-unfoldable pub second : ℕ → ℕ → ℕ → ℕ → ℕ
-second c d t₁ e = quot (t₁ ⊕ (c · e)) d
+      -- off card j, x is b with that change
+      is-made : (p : ℕ) → p < 45 → p / 9 ≢ j → x p ≡ b p ⊕ made p
+      unfolding made
+      is-made p hp np = go (is-in p ps) refl (near p hp)
+        where
+          go : (t : Bool) → is-in p ps ≡ t → (b p ≡ x p) ⊎ ((p / 9 ≡ j) ⊎ In p ps) → x p ≡ b p ⊕ if t (b p ⊕ x p) 0
+          go true e o = sym (add-self-left (b p) (x p))
+          go false e (inl d) = sym d ∙ sym (add-zero (b p))
+          go false e (inr (inl d)) = absurd (np d)
+          go false e (inr (inr i)) = absurd (clash (is-in p ps) (in-is-in p ps i) e)
 
-pub nonzero : (c d : ℕ) → c < 2 ^ 8 → d < 2 ^ 8 → c ≢ 0 → c ≢ d → c · (c ⊕ d) ≢ 0
-nonzero c d hc hd nc n z = n (eq-of-sum c d (zero-divisor 8 _·_ field c (c ⊕ d) hc (add-lt 8 c d hc hd) nc z))
+      solves : (t : ℕ) → t < r → dot _·_ t (entry ls j) ps made ≡ sums t
+      solves t l =
+          sym (over-ps t made made-off)
+          ∙ sym (eq-of-sum (sums t) (red _·_ ls t j made)
+          (sym (red-add w _·_ F ls t j b made) ∙ sym (red-off w _·_ F ls t j x (λ p. b p ⊕ made p) is-made) ∙ law-red w _·_ F ls r x law t j l))
 
-module _ (c d t₁ t₂ : ℕ) (hc : c < 2 ^ 8) (hd : d < 2 ^ 8) (h₁ : t₁ < 2 ^ 8) (h₂ : t₂ < 2 ^ 8) (nc : c ≢ 0) (nd : d ≢ 0) (n : c ≢ d) where
-  pub two-forward : (e f : ℕ) → e < 2 ^ 8 → f < 2 ^ 8
-      → (t₁ ⊕ (c · e)) ⊕ (d · f) ≡ 0 → (t₂ ⊕ ((c · c) · e)) ⊕ ((d · d) · f) ≡ 0
-      → (e ≡ first c d t₁ t₂) × (f ≡ second c d t₁ e)
-  unfolding first second
-  two-forward e f he hf q₁ q₂ =
-      let F : IsField 8 _·_ = field in
-      let r₁ : t₁ ⊕ (c · e) ≡ d · f = eq-of-sum (t₁ ⊕ (c · e)) (d · f) q₁ in
-      let r₂ : t₂ ⊕ ((c · c) · e) ≡ (d · d) · f = eq-of-sum (t₂ ⊕ ((c · c) · e)) ((d · d) · f) q₂ in
-      let a : (c · (c ⊕ d)) · e ≡ ((t₂ ⊕ ((c · c) · e)) ⊕ (d · (t₁ ⊕ (c · e)))) ⊕ (t₂ ⊕ (d · t₁)) = simp (ring, F) in
-      let b : ((d · d) · f ⊕ (d · (d · f))) ⊕ (t₂ ⊕ (d · t₁)) ≡ t₂ ⊕ (d · t₁) = simp (ring, F) in (
-        quot-only (t₂ ⊕ (d · t₁)) (c · (c ⊕ d)) e (field .below c (c ⊕ d)) he (nonzero c d hc hd nc n)
-            (a ∙ ap₂ (λ (x y : ℕ). (x ⊕ (d · y)) ⊕ (t₂ ⊕ (d · t₁))) r₂ r₁ ∙ b),
-        quot-only (t₁ ⊕ (c · e)) d f hd hf nd (sym r₁),
-      )
+      pub mended-only : T (fits _·_ r (entry ls j) ps sums) × ((p : ℕ) → p < 45 → x p ≡ fill j (mended _·_ (F .inv) ls j b ps) p)
+      mended-only =
+          let v = only w _·_ F r (entry ls j) ps made sums few (entry-below w ls ls-below j) made-below free solves in (
+            v .0,
+            fill-only j hj x (mended _·_ (F .inv) ls j b ps) (law .rows)
+                (λ p hp np. is-made p hp np ∙ ap (λ (z : ℕ). b p ⊕ z) (each p (v .1) (member p ps))),
+          )
+        where
+          each : (p : ℕ) → ((q : ℕ) → In q ps → made q ≡ change q) → In p ps ⊎ (In p ps → ⊥) → made p ≡ change p
+          each p h (inl i) = h p i
+          each p h (inr n) = made-off p n ∙ sym (values-off w _·_ F (entry ls j) ps sums p n)
 
-  pub two-back : (e f : ℕ) → e ≡ first c d t₁ t₂ → f ≡ second c d t₁ e
-      → ((t₁ ⊕ (c · e)) ⊕ (d · f) ≡ 0) × ((t₂ ⊕ ((c · c) · e)) ⊕ ((d · d) · f) ≡ 0)
-  unfolding first second
-  two-back e f qe qf =
-      let F : IsField 8 _·_ = field in
-      let u : c · e < 2 ^ 8 = field .below c e in
-      let v : d · t₁ < 2 ^ 8 = field .below d t₁ in
-      let r₁ : d · f ≡ t₁ ⊕ (c · e) = ap (λ (z : ℕ). d · z) qf ∙ times-quot (t₁ ⊕ (c · e)) d (add-lt 8 t₁ (c · e) h₁ u) hd nd in
-      let r₂ : (c · (c ⊕ d)) · e ≡ t₂ ⊕ (d · t₁) =
-      ap (λ (z : ℕ). (c · (c ⊕ d)) · z) qe ∙ times-quot (t₂ ⊕ (d · t₁)) (c · (c ⊕ d)) (add-lt 8 t₂ (d · t₁) h₂ v) (field .below c (c ⊕ d)) (nonzero c d hc hd nc n) in
-      let a : (t₂ ⊕ ((c · c) · e)) ⊕ ((d · d) · f) ≡ ((t₂ ⊕ ((c · (c ⊕ d)) · e)) ⊕ (d · (c · e))) ⊕ (d · (d · f)) = split _·_ field c d e f t₂ in
-      let b : ((t₂ ⊕ (t₂ ⊕ (d · t₁))) ⊕ (d · (c · e))) ⊕ (d · (t₁ ⊕ (c · e))) ≡ 0 = simp (ring, F) in (
-        ap (λ (z : ℕ). (t₁ ⊕ (c · e)) ⊕ z) r₁ ∙ add-self (t₁ ⊕ (c · e)),
-        a ∙ ap₂ (λ (x y : ℕ). ((t₂ ⊕ x) ⊕ (d · (c · e))) ⊕ (d · y)) r₂ r₁ ∙ b,
-      )
-
-pub first-below : (c d t₁ t₂ : ℕ) → first c d t₁ t₂ < 2 ^ 8
-unfolding first
-first-below c d t₁ t₂ = quot-below (t₂ ⊕ (d · t₁)) (c · (c ⊕ d))
-
-pub second-below : (c d t₁ e : ℕ) → second c d t₁ e < 2 ^ 8
-unfolding second
-second-below c d t₁ e = quot-below (t₁ ⊕ (c · e)) d
+-- two lawful blocks that differ only in card j and in ps are one: both are reached from the first
+pub law-alike : (w : ℕ) (_·_ : ℕ → ℕ → ℕ) (F : IsField w _·_) (ls : List ℕ) → ((p : ℕ) → byte ls p < 2 ^ w) → (r j : ℕ) → j < 5 → (ps : List ℕ) → Few r ps
+    → Free _·_ (entry ls j) ps → (x y : ℕ → ℕ) → Below w x → Below w y → Law _·_ ls r x → Law _·_ ls r y
+    → ((p : ℕ) → p < 45 → (x p ≡ y p) ⊎ ((p / 9 ≡ j) ⊎ In p ps)) → (p : ℕ) → p < 45 → x p ≡ y p
+law-alike w mul F ls hl r j hj ps few free x y hx hy lx ly near p l =
+    mended-only w mul F ls hl r j hj x ps few free x hx hx lx (λ q z. inl refl) .1 p l
+    ∙ sym (mended-only w mul F ls hl r j hj x ps few free y hx hy ly near .1 p l)

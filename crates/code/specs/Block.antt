@@ -10,12 +10,13 @@
 --   Stored r x        x is a lawful block that begins with the record r
 --   OneMember P x     x is the one member of the set P; NoMember, TwoMembers: it has none, at least two
 use mathlib.Core.Path.{_≡_}
-use mathlib.Core.Bool.{Bool, true, false}
+use mathlib.Core.Bool.{not}
 use mathlib.Core.Logic.{_⊎_, _≢_}
 use mathlib.Core.List.{List, [], _∷_}
 use Prim.Native.Nat.{ℕ, zero, suc, _+_, _*_, _<_}
 use lib.Dec.{eqb}
 use lib.ListN.{length, getD, take}
+use Rattle.base.specs.Base.{tally}
 use Rattle.field.specs.Field.{_·_, sum}
 
 abbrev pub byte : List ℕ → ℕ → ℕ
@@ -45,17 +46,8 @@ block-of f = listed f 45 []
 abbrev pub DifferOnly : (ℕ → Type 0) → List ℕ → List ℕ → Type 0
 DifferOnly P b x = (p : ℕ) → p < 45 → (byte b p ≡ byte x p) ⊎ P p
 
-abbrev pub one-unless : Bool → ℕ
-one-unless true = 0
-one-unless false = 1
-
--- of the first n bytes
-unfoldable pub changes-below : ℕ → List ℕ → List ℕ → ℕ
-changes-below zero b x = 0
-changes-below (suc n) b x = one-unless (eqb (byte b n) (byte x n)) + changes-below n b x
-
-abbrev pub changes : List ℕ → List ℕ → ℕ
-changes b x = changes-below 45 b x
+unfoldable pub changes : List ℕ → List ℕ → ℕ
+changes b x = tally 45 (λ p. not (eqb (byte b p) (byte x p)))
 
 pub record Stored (labels r x : List ℕ) : Type 0 where
   pub block : Block x

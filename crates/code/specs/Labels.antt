@@ -4,7 +4,6 @@
 --   entry labels j p position p's entry in card j's reduced matrix (source document 004, part III)
 --   Separated        01's property: for every card its 36 sums are nonzero and all different
 --   LabelSet         45 bytes with that property
-use mathlib.Core.Path.{_≡_}
 use mathlib.Core.Logic.{_≢_}
 use mathlib.Core.List.{List}
 use Prim.Native.Nat.{ℕ, _+_, _*_, _/_, _%_, _<_}

@@ -1,21 +1,27 @@
--- Every nonzero element has an inverse, at every width and modulus that pass two tests on the w powers of x below x ^ w:
--- squaring w times is the identity, and a given linear map takes e * e + e to e without its lowest digit, so that 0 and 1 are the only e with e * e = e.
+-- Every nonzero element has an inverse, at every width and modulus that pass two tests on the w powers of x below x ^ w: squaring w times
+-- is the identity, and a given linear map takes e * e + e to e without its lowest digit, so that 0 and 1 are the only e with e * e = e.
 --
-use mathlib.Core.Logic.{_≢_, _⊎_, inl, inr}
-use mathlib.Core.Path.{_≡_, refl, sym, ap, ap₂, _∙_, subst}
-use mathlib.Core.Bool.{Bool, true, false}
+--   linear cs        the linear map that takes 1, 2, 4, .. to the numbers cs
+--   square a         a times a; powers n x: x ^ (2 ^ n - 1); inverse x: x ^ (2 ^ w - 2)
+--   squared-test, split-test   the two tests
+--   mul-inverse      x times its inverse is 1, for x not 0; inverse-lt: it is an element
+--   is-field         so the product in rounds makes a field
+use mathlib.Core.Logic.{_≢_}
+use mathlib.Core.Path.{_≡_, refl, sym, ap, ap₂, _∙_}
+use mathlib.Core.Bool.{Bool}
 use mathlib.Core.List.{List, [], _∷_}
-use Prim.Native.Nat.{ℕ, zero, suc, _+_, _*_, _/_, _%_, _^_, _≤_, _<_}
-use native.Mathlib.Nat.{mod-lt, le-of-suc-le-suc, not-suc-le-zero, zero-mul, one-mul, lt-suc-self, lt-trans, mod-eq-of-lt, eq-or-lt-of-le}
+use Prim.Native.Nat.{ℕ, zero, suc, _*_, _/_, _%_, _^_, _<_}
+use native.Mathlib.Nat.{mod-eq-of-lt}
 use native.Mathlib.Omega.{arith}
 use lib.Dec.{T, eqb, eqb→eq}
-use lib.Pow.{pow-pos, pow-lt}
+use lib.Pow.{pow-lt}
 use Rattle.field.specs.Field.{_⊕_}
-use Rattle.field.proofs.Xor.{add-comm, add-assoc, add-left-comm, add-self, zero-add, add-zero, add-self-left, add-lt, add-shr, add-mod, swap, sums, eq-of-sum}
-use Rattle.field.proofs.Linear.{bit-lt, bit-ind, scale-add, add-scale, Additive, at-zero, at-scale, additive-ext}
-use Rattle.field.proofs.Tests.{every, every-at}
+use Rattle.field.proofs.Xor.{add-self, add-shr, add-mod, swap, sums, eq-of-sum}
+use Rattle.field.proofs.Linear.{bit-lt, bit-ind, add-scale, Additive, at-zero, additive-ext}
+use Rattle.base.proofs.Tests.{every, every-at}
 use Rattle.field.proofs.IsField.{IsField}
-use Rattle.field.proofs.Product.{mul, mul-comm, mul-add, add-mul, mul-zero′, zero-mul′, one-mul′, mul-lt, mul-assoc′}
+use Rattle.field.proofs.Squares.{squared, squared-additive}
+use Rattle.field.proofs.Product.{mul, mul-comm, mul-add, add-mul, mul-zero′, one-mul′, mul-lt, mul-assoc′}
 
 -- ---- a linear map, given by what it takes 1, 2, 4, .. to
 unfoldable pub linear : List ℕ → ℕ → ℕ
@@ -34,11 +40,6 @@ module _ (k m : ℕ) where
   unfoldable pub square : ℕ → ℕ
   square a = mul k m a a
 
-  -- squared n times
-  unfoldable pub frobenius : ℕ → ℕ → ℕ
-  frobenius zero a = a
-  frobenius (suc n) a = frobenius n (square a)
-
   -- x ^ (2 ^ n - 1)
   unfoldable pub powers : ℕ → ℕ → ℕ
   powers zero x = 1
@@ -49,8 +50,8 @@ module _ (k m : ℕ) where
   inverse x = powers k (square x)
 
   -- the two tests
-  abbrev pub frobenius-test : Bool
-  frobenius-test = every (λ i. eqb (frobenius (suc k) (2 ^ i)) (2 ^ i)) (suc k)
+  abbrev pub squared-test : Bool
+  squared-test = every (λ i. eqb (squared (mul k m) (suc k) (2 ^ i)) (2 ^ i)) (suc k)
 
   abbrev pub split-test : List ℕ → Bool
   split-test cs = every (λ i. eqb (linear cs (square (2 ^ i) ⊕ 2 ^ i)) ((2 ^ i) ⊕ (2 ^ i % 2))) (suc k)
@@ -67,11 +68,6 @@ module _ (k m : ℕ) where
     unfolding square
     square-mul a b = simp (mul-assoc′ k m hm, mul-left-comm′)
 
-    frobenius-add : (n : ℕ) → Additive (frobenius n)
-    unfolding frobenius
-    frobenius-add zero a b = refl
-    frobenius-add (suc n) a b = ap (frobenius n) (square-add a b) ∙ frobenius-add n (square a) (square b)
-
     one-lt : 1 < 2 ^ suc k
     one-lt = pow-lt {i = 0} {j = suc k} (omega arith)
 
@@ -80,25 +76,25 @@ module _ (k m : ℕ) where
     square-powers zero x = one-mul′ k m 1 ∙ mod-eq-of-lt one-lt
     square-powers (suc n) x = square-mul x (powers n (square x)) ∙ ap (λ (y : ℕ). mul k m (square x) y) (square-powers n (square x))
 
-    shift-powers : (n x : ℕ) → mul k m (powers n x) (frobenius n x) ≡ mul k m x (powers n (square x))
-    unfolding powers frobenius
+    shift-powers : (n x : ℕ) → mul k m (powers n x) (squared (mul k m) n x) ≡ mul k m x (powers n (square x))
+    unfolding powers squared square
     shift-powers zero x = mul-comm k m 1 x
     shift-powers (suc n) x =
-        mul-assoc′ k m hm x (powers n (square x)) (frobenius n (square x)) ∙ ap (λ (y : ℕ). mul k m x y) (shift-powers n (square x))
+        mul-assoc′ k m hm x (powers n (square x)) (squared (mul k m) n (square x)) ∙ ap (λ (y : ℕ). mul k m x y) (shift-powers n (square x))
 
-    frobenius-powers : (n x : ℕ) → x < 2 ^ suc k → frobenius n x ≡ mul k m x (powers n x)
-    unfolding powers frobenius square
-    frobenius-powers zero x h = sym (mul-comm k m x 1 ∙ one-mul′ k m x ∙ mod-eq-of-lt h)
-    frobenius-powers (suc n) x h =
-        frobenius-powers n (square x) (mul-lt k m hm x x) ∙ mul-assoc′ k m hm x x (powers n (square x))
+    squared-powers : (n x : ℕ) → x < 2 ^ suc k → squared (mul k m) n x ≡ mul k m x (powers n x)
+    unfolding powers squared square
+    squared-powers zero x h = sym (mul-comm k m x 1 ∙ one-mul′ k m x ∙ mod-eq-of-lt h)
+    squared-powers (suc n) x h =
+        squared-powers n (square x) (mul-lt k m hm x x) ∙ mul-assoc′ k m hm x x (powers n (square x))
 
-    module _ (cs : List ℕ) (test₁ : T frobenius-test) (test₂ : T (split-test cs)) where
-      pub frobenius-id : (x : ℕ) → x < 2 ^ suc k → frobenius (suc k) x ≡ x
-      unfolding frobenius
-      frobenius-id x h =
-          ap (frobenius (suc k)) (sym (mod-eq-of-lt h))
-          ∙ additive-ext (frobenius (suc k)) (λ a. a) (frobenius-add (suc k)) (λ a b. refl) (suc k)
-          (λ i l. eqb→eq (frobenius (suc k) (2 ^ i)) (2 ^ i) (every-at (λ i. eqb (frobenius (suc k) (2 ^ i)) (2 ^ i)) (suc k) test₁ i l)) x
+    module _ (cs : List ℕ) (test₁ : T squared-test) (test₂ : T (split-test cs)) where
+      pub squared-id : (x : ℕ) → x < 2 ^ suc k → squared (mul k m) (suc k) x ≡ x
+      unfolding squared square
+      squared-id x h =
+          ap (squared (mul k m) (suc k)) (sym (mod-eq-of-lt h))
+          ∙ additive-ext (squared (mul k m) (suc k)) (λ a. a) (squared-additive (mul k m) square-add (suc k)) (λ a b. refl) (suc k)
+          (λ i l. eqb→eq (squared (mul k m) (suc k) (2 ^ i)) (2 ^ i) (every-at (λ i. eqb (squared (mul k m) (suc k) (2 ^ i)) (2 ^ i)) (suc k) test₁ i l)) x
           ∙ mod-eq-of-lt h
 
       image-add : Additive (λ e. linear cs (square e ⊕ e))
@@ -124,12 +120,12 @@ module _ (k m : ℕ) where
           (sym (split e h) ∙ ap (linear cs) (ap (λ (x : ℕ). x ⊕ e) q ∙ add-self e) ∙ at-zero (linear cs) (linear-add cs))
 
       idempotent : (x : ℕ) → x < 2 ^ suc k → square (mul k m x (inverse x)) ≡ mul k m x (inverse x)
-      unfolding inverse frobenius
+      unfolding inverse squared square
       idempotent x h =
           square-mul x (powers k (square x))
           ∙ ap (λ (y : ℕ). mul k m (square x) y) (square-powers k (square x))
           ∙ sym (shift-powers k (square x))
-          ∙ ap (λ (y : ℕ). mul k m (powers k (square x)) y) (frobenius-id x h)
+          ∙ ap (λ (y : ℕ). mul k m (powers k (square x)) y) (squared-id x h)
           ∙ mul-comm k m (powers k (square x)) x
 
       pub mul-inverse : (x : ℕ) → x < 2 ^ suc k → x ≢ 0 → mul k m x (inverse x) ≡ 1
@@ -140,7 +136,7 @@ module _ (k m : ℕ) where
           e = mul k m x (inverse x)
 
           none : e ≡ 0 → x ≡ 0
-          none z = sym (frobenius-id x h) ∙ frobenius-powers (suc k) x h ∙ ap (λ (y : ℕ). mul k m x y) z ∙ mul-zero′ k m x
+          none z = sym (squared-id x h) ∙ squared-powers (suc k) x h ∙ ap (λ (y : ℕ). mul k m x y) z ∙ mul-zero′ k m x
 
           pick : (d : ℕ) → d < 2 → e ≡ d → e ≡ 1
           pick d l = bit-ind (λ (d : ℕ). e ≡ d → e ≡ 1) (λ q. absurd (ne (none q))) (λ q. q) d l
@@ -157,7 +153,7 @@ module _ (k m : ℕ) where
       powers-lt zero x = one-lt
       powers-lt (suc n) x = mul-lt k m hm x (powers n (square x))
 
-      inverse-lt : (x : ℕ) → inverse x < 2 ^ suc k
+      pub inverse-lt : (x : ℕ) → inverse x < 2 ^ suc k
       unfolding inverse
       inverse-lt x = powers-lt k (square x)
 

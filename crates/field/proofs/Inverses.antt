@@ -1,4 +1,7 @@
--- The inverses of 0 to 255 in figures, with 0 for 0: each is the inverse, by a test over the table.
+-- The inverses of 0 to 255 in figures, each tested.
+--
+--   figures            the table, with 0 for 0
+--   figures-inverse    each entry is the inverse of its place; figures-zero: the entry for 0
 use mathlib.Core.Logic.{_≢_, _⊎_, inl, inr}
 use mathlib.Core.Path.{_≡_, refl, _∙_}
 use mathlib.Core.Bool.{Bool}
@@ -7,7 +10,7 @@ use Prim.Native.Nat.{ℕ, _<_}
 use lib.Dec.{T, eqb, eqb→eq}
 use lib.ListN.{getD}
 use Rattle.field.specs.Field.{_⊕_, _·_}
-use Rattle.field.proofs.Tests.{either, either-cases, every, every-at}
+use Rattle.base.proofs.Tests.{either, either-cases, every, every-at}
 use Rattle.field.proofs.Product.{times-x, rounds, mul}
 use Rattle.field.proofs.Gf256.{in-rounds}
 

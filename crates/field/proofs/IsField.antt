@@ -1,5 +1,7 @@
--- What is used of a field of 2 ^ w elements, 0 to 2 ^ w - 1, whose sum is ⊕. The ring laws hold of all numbers; 1 and inverses ask the range.
+-- What is used of a field of 2 ^ w elements, 0 to 2 ^ w - 1, whose sum is ⊕. The ring laws hold of all numbers; 1 and
+-- inverses ask the range.
 --
+--   IsField w mul    these laws, of the product mul
 use mathlib.Core.Logic.{_≢_}
 use mathlib.Core.Path.{_≡_}
 use Prim.Native.Nat.{ℕ, _<_, _^_}

@@ -1,12 +1,15 @@
-pub mod Tests
 pub mod Xor
 pub mod Linear
+pub mod Sum
 pub mod IsField
 pub mod Ring
-pub mod Moore
+pub mod Squares
+pub mod Quotient
 pub mod Product
 pub mod Remainder
+pub mod InRounds
 pub mod Inverse
 pub mod Gf256
 pub mod Steps
 pub mod Inverses
+pub mod Powers

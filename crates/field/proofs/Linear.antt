@@ -1,18 +1,24 @@
 -- Additive maps on numbers, by their binary digits.
-use mathlib.Core.Path.{_≡_, refl, sym, ap, ap₂, _∙_, subst}
-use Prim.Native.Nat.{ℕ, zero, suc, _+_, _*_, _/_, _%_, _^_, _≤_, _<_}
-use native.Mathlib.Nat.{mod-lt, le-of-suc-le-suc, not-suc-le-zero, zero-lt-suc, zero-mul, one-mul, mul-zero, le-refl, le-suc, lt-of-lt-of-le, mod-one, lt-suc-self, lt-trans, mul-lt-mul-of-pos-right, le-trans, le-of-lt, mul-le-mul-right}
+--
+--   bit-ind             a number below 2 is 0 or 1; bit-lt: a remainder by 2 is such a number
+--   scale-add, add-scale, scale-lt    a digit times a number: of a sum, of a sum of digits, its size
+--   if-below            the size of a conditional
+--   double-add          twice a sum
+--   Additive f          f takes sums to sums; at-zero, at-scale: its value at 0, and at a digit times a number
+--   top-digit           a number's top digit and the digits below
+--   additive-ext        additive maps that agree at 1, 2, 4, .. agree; additive-below: and have values of k digits
+use mathlib.Core.Path.{_≡_, sym, ap, ap₂, _∙_, subst}
+use mathlib.Core.Bool.{Bool, true, false}
+use Prim.Native.Nat.{ℕ, zero, suc, _*_, _/_, _%_, _^_, _<_}
+use native.Mathlib.Nat.{mod-lt, le-of-suc-le-suc, not-suc-le-zero, zero-mul, one-mul, mod-one, lt-suc-self, lt-trans}
 use native.Mathlib.Numerals.{one-add}
-use native.Mathlib.Omega.{arith}
 use lib.Bits.{bitXor, xor-block, xor-shifted}
 use lib.Pow.{mod-pow-add, pow-pos}
+use Rattle.base.specs.Base.{if}
 use Rattle.field.specs.Field.{_⊕_}
-use Rattle.field.proofs.Xor.{add-comm, add-assoc, add-self, zero-add, add-zero, add-self-left, add-lt, sums}
+pub use Rattle.field.proofs.Xor.{bit-lt}
+use Rattle.field.proofs.Xor.{add-self, zero-add, add-zero, add-self-left, add-lt}
 
-pub bit-lt : (a : ℕ) → a % 2 < 2
-bit-lt a = mod-lt a (zero-lt-suc 1)
-
--- a number below 2 is 0 or 1
 pub bit-ind : (P : ℕ → Type 0) → P 0 → P 1 → (x : ℕ) → x < 2 → P x
 bit-ind P p q zero h = p
 bit-ind P p q (suc zero) h = q
@@ -31,6 +37,15 @@ add-scale x y a hx hy =
     (simp (zero-mul, zero-add))
     (bit-ind (λ (y : ℕ). (1 ⊕ y) * a ≡ (1 * a) ⊕ (y * a)) (simp (zero-mul, add-zero, one-mul)) (simp (add-self, zero-mul)) y hy)
     x hx
+
+pub scale-lt : (x a n : ℕ) → x < 2 → a < 2 ^ n → x * a < 2 ^ n
+scale-lt x a n hx ha =
+    bit-ind (λ (x : ℕ). x * a < 2 ^ n) (subst (λ (y : ℕ). y < 2 ^ n) (sym (zero-mul a)) (pow-pos n))
+    (subst (λ (y : ℕ). y < 2 ^ n) (sym (one-mul a)) ha) x hx
+
+pub if-below : (n : ℕ) (t : Bool) (a b : ℕ) → a < 2 ^ n → b < 2 ^ n → if t a b < 2 ^ n
+if-below n true a b h g = h
+if-below n false a b h g = g
 
 pub double-add : (a b : ℕ) → (a ⊕ b) * 2 ≡ (a * 2) ⊕ (b * 2)
 unfolding _⊕_
@@ -75,9 +90,7 @@ pub additive-below : (f : ℕ → ℕ) → Additive f → (k n : ℕ) → ((i : 
 additive-below f hf k zero h a = subst (λ (x : ℕ). x < 2 ^ k) (sym (ap f (mod-one a) ∙ at-zero f hf)) (pow-pos k)
 additive-below f hf k (suc n) h a =
     subst (λ (x : ℕ). x < 2 ^ k) (sym (ap f (top-digit n a) ∙ hf (a / 2 ^ n % 2 * 2 ^ n) (a % 2 ^ n)))
-    (add-lt k (f (a / 2 ^ n % 2 * 2 ^ n)) (f (a % 2 ^ n)) (top (a / 2 ^ n % 2) (bit-lt (a / 2 ^ n))) (additive-below f hf k n (λ i l. h i (lt-trans l (lt-suc-self n))) a))
-  where
-    top : (x : ℕ) → x < 2 → f (x * 2 ^ n) < 2 ^ k
-    top x hx = subst (λ (y : ℕ). y < 2 ^ k) (sym (at-scale f hf x (2 ^ n) hx))
-        (bit-ind (λ (x : ℕ). x * f (2 ^ n) < 2 ^ k) (subst (λ (y : ℕ). y < 2 ^ k) (sym (zero-mul (f (2 ^ n)))) (pow-pos k))
-        (subst (λ (y : ℕ). y < 2 ^ k) (sym (one-mul (f (2 ^ n)))) (h n (lt-suc-self n))) x hx)
+    (add-lt k (f (a / 2 ^ n % 2 * 2 ^ n)) (f (a % 2 ^ n))
+    (subst (λ (y : ℕ). y < 2 ^ k) (sym (at-scale f hf (a / 2 ^ n % 2) (2 ^ n) (bit-lt (a / 2 ^ n))))
+    (scale-lt (a / 2 ^ n % 2) (f (2 ^ n)) k (bit-lt (a / 2 ^ n)) (h n (lt-suc-self n))))
+    (additive-below f hf k n (λ i l. h i (lt-trans l (lt-suc-self n))) a))

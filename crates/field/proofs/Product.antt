@@ -2,16 +2,19 @@
 --
 --   times-x a     x times a, reduced
 --   rounds n a b  the sum of x ^ i times a over the n lowest digits i of b that are set
---   mul a b       the product; Remainder.antt shows that it is the one of specs/
-use mathlib.Core.Path.{_≡_, refl, sym, ap, ap₂, _∙_, subst}
+--   mul a b       the product; InRounds.antt shows that it is the one of specs/
+--   pw i a        x ^ i times a, reduced
+--   mul-comm, mul-assoc′, mul-add, add-mul, mul-zero′, zero-mul′, one-mul′, mul-lt    the laws
+use mathlib.Core.Path.{_≡_, refl, sym, ap, ap₂, _∙_}
 use Prim.Native.Nat.{ℕ, zero, suc, _+_, _*_, _/_, _%_, _^_, _≤_, _<_}
-use native.Mathlib.Nat.{mod-lt, le-of-suc-le-suc, not-suc-le-zero, zero-lt-suc, zero-mul, one-mul, mul-zero, le-refl, le-suc, lt-of-lt-of-le, mod-one, lt-suc-self, lt-trans, le-trans, le-of-lt, pow-suc, mod-eq-of-lt, div-eq-of-lt, mul-div-cancel, mul-mod-left, zero-mod, zero-div, mod-mod, lt-of-le-of-lt, suc-add, add-suc}
+use native.Mathlib.Nat.{mod-lt, le-of-suc-le-suc, not-suc-le-zero, zero-lt-suc, zero-mul}
+use native.Mathlib.Nat.{one-mul, pow-suc, mod-eq-of-lt, div-eq-of-lt, mul-div-cancel, mul-mod-left}
 use native.Mathlib.Omega.{arith}
 use lib.Arith.{digits-div, digits-mod, mod-mul}
-use lib.Pow.{pow-pos, pow-lt, pow-mono}
+use lib.Pow.{pow-pos, pow-lt}
 use Rattle.field.specs.Field.{_⊕_}
-use Rattle.field.proofs.Xor.{add-comm, add-assoc, add-left-comm, add-self, zero-add, add-zero, add-self-left, add-lt, add-shr, add-mod, swap, sums}
-use Rattle.field.proofs.Linear.{bit-lt, bit-ind, scale-add, add-scale, double-add, Additive, at-zero, at-scale, additive-ext}
+use Rattle.field.proofs.Xor.{add-self, zero-add, add-zero, add-lt, add-shr, add-mod, swap}
+use Rattle.field.proofs.Linear.{bit-lt, scale-add, add-scale, scale-lt, double-add, Additive, at-zero, at-scale, additive-ext}
 
 two-pos : zero < 2
 two-pos = zero-lt-suc 1
@@ -61,9 +64,14 @@ module _ (k m : ℕ) where
       ∙ sym (x-add (b % 2 * a) (rounds k m n (times-x k m a) (b / 2)))
 
   -- x ^ i times a
-  pw : ℕ → ℕ → ℕ
+  unfoldable pub pw : ℕ → ℕ → ℕ
   pw zero a = a
   pw (suc i) a = pw i (times-x k m a)
+
+  pub x-pw : (i a : ℕ) → pw (suc i) a ≡ times-x k m (pw i a)
+  unfolding pw
+  x-pw zero a = refl
+  x-pw (suc i) a = x-pw i (times-x k m a)
 
   pw-rounds : (i n a b : ℕ) → rounds k m n (pw i a) b ≡ pw i (rounds k m n a b)
   unfolding pw
@@ -152,19 +160,14 @@ module _ (k m : ℕ) where
 
   -- the modulus' low part has the width's digits: so do products
   module _ (hm : m < 2 ^ suc k) where
-    scale-lt : (x a : ℕ) → x < 2 → a < 2 ^ suc k → x * a < 2 ^ suc k
-    scale-lt x a hx ha =
-        bit-ind (λ (x : ℕ). x * a < 2 ^ suc k) (subst (λ (y : ℕ). y < 2 ^ suc k) (sym (zero-mul a)) (pow-pos (suc k)))
-        (subst (λ (y : ℕ). y < 2 ^ suc k) (sym (one-mul a)) ha) x hx
-
     pub x-lt : (a : ℕ) → times-x k m a < 2 ^ suc k
     unfolding times-x
-    x-lt a = add-lt (suc k) _ _ (mod-lt (a * 2) (pow-pos (suc k))) (scale-lt (a / 2 ^ k % 2) m (bit-lt (a / 2 ^ k)) hm)
+    x-lt a = add-lt (suc k) _ _ (mod-lt (a * 2) (pow-pos (suc k))) (scale-lt (a / 2 ^ k % 2) m (suc k) (bit-lt (a / 2 ^ k)) hm)
 
     rounds-lt : (n a b : ℕ) → a < 2 ^ suc k → rounds k m n a b < 2 ^ suc k
     unfolding rounds
     rounds-lt zero a b ha = pow-pos (suc k)
-    rounds-lt (suc n) a b ha = add-lt (suc k) _ _ (scale-lt (b % 2) a (bit-lt b) ha) (rounds-lt n (times-x k m a) (b / 2) (x-lt a))
+    rounds-lt (suc n) a b ha = add-lt (suc k) _ _ (scale-lt (b % 2) a (suc k) (bit-lt b) ha) (rounds-lt n (times-x k m a) (b / 2) (x-lt a))
 
     -- x itself is the number 2
     pub x-mul : (a : ℕ) → 0 < k → a < 2 ^ suc k → mul k m a 2 ≡ times-x k m a

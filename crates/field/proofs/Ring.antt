@@ -1,9 +1,13 @@
--- The laws of any field as one set of rewriting rules: `simp (ring, F)`, with F the field's laws, sorts both sides of an equation alike.
+-- The laws of any field as one set of rewriting rules.
+--
+--   mul-comm, mul-assoc, mul-left-comm, mul-add, add-mul, mul-zero, zero-mul    the ring laws
+--   ring             the set: `simp (ring, F)`, with F the field's laws, sorts both sides of an equation alike
+--   zero-divisor     a product is 0 only where a factor is
 use mathlib.Core.Logic.{_≢_}
-use mathlib.Core.Path.{_≡_, refl, sym, ap, ap₂, _∙_, subst}
-use Prim.Native.Nat.{ℕ, zero, suc, _<_, _^_}
+use mathlib.Core.Path.{_≡_, sym, ap, ap₂, _∙_}
+use Prim.Native.Nat.{ℕ, _<_, _^_}
 use Rattle.field.specs.Field.{_⊕_}
-use Rattle.field.proofs.Xor.{add-comm, add-assoc, add-left-comm, add-self, zero-add, add-zero, add-self-left, add-lt, sums, eq-of-sum}
+use Rattle.field.proofs.Xor.{sums}
 use Rattle.field.proofs.Linear.{at-zero}
 use Rattle.field.proofs.IsField.{IsField}
 

@@ -1,6 +1,9 @@
--- The steps of the mul's code, at every width.
-use mathlib.Core.Path.{_≡_, refl, sym, ap, ap₂, _∙_, subst}
-use mathlib.Core.Logic.{_⊎_, inl, inr}
+-- The steps of the product's code, at every width.
+--
+--   x-clear, x-set            x times a, as the code makes it: the top bit is clear, or set
+--   round-set, round-clear    one round: the lowest digit of y is set, or clear
+--   rounds-start, rounds-end  before the first round, and after the last
+use mathlib.Core.Path.{_≡_, refl, sym, ap, ap₂, _∙_}
 use Prim.Native.Nat.{ℕ, zero, suc, _+_, _-_, _*_, _/_, _%_, _^_, _≤_, _<_}
 use native.Mathlib.Nat.{zero-mul, one-mul, not-suc-le-zero, mod-eq-of-lt}
 use native.Mathlib.Omega.{arith}
@@ -12,7 +15,6 @@ use Rattle.field.proofs.Xor.{add-zero, zero-add, add-assoc}
 use Rattle.field.proofs.Linear.{bit-lt, bit-ind}
 
 module _ (k m : ℕ) where
-  -- the top bit is clear, or set
   pub x-clear : (a : ℕ) → bitAnd a (2 ^ (1 + k) - 2 ^ k) ≡ 0 → a * 2 % 2 ^ suc k ≡ times-x k m a
   unfolding times-x
   x-clear a h =
@@ -39,7 +41,6 @@ module _ (k m : ℕ) where
       let e : n ≡ suc n - 1 = omega arith in
       ap (λ (j : ℕ). (y % 2 * x) ⊕ rounds k m j (times-x k m x) (y / 2)) e
 
-  -- one round: the lowest digit of y is set, or clear
   pub round-set : (n x y r r′ x′ : ℕ) → 0 < n → bitAnd y 1 ≡ 1 → r′ ≡ r ⊕ x → x′ ≡ times-x k m x
       → r′ ⊕ rounds k m (n - 1) x′ (y / 2) ≡ r ⊕ rounds k m n x y
   round-set n x y r r′ x′ h b er ex =
@@ -62,7 +63,6 @@ module _ (k m : ℕ) where
       clear : y % 2 ≡ 0
       clear = bit-ind (λ (d : ℕ). (d ≡ 1 → ⊥) → d ≡ 0) (λ q. refl) (λ q. absurd (q refl)) (y % 2) (bit-lt y) (λ e. b (and-mask y 1 ∙ e))
 
-  -- before the first round, and after the last
   pub rounds-start : (a b : ℕ) → a < 2 ^ suc k → 0 ⊕ rounds k m (suc k) a b ≡ mul k m a b
   unfolding mul
   rounds-start a b h = zero-add (rounds k m (suc k) a b) ∙ ap (λ (x : ℕ). rounds k m (suc k) x b) (sym (mod-eq-of-lt h))

@@ -1,8 +1,14 @@
 -- The laws of ⊕.
-use mathlib.Core.Path.{_≡_, refl, sym, ap, ap₂, _∙_, subst}
-use Prim.Native.Nat.{ℕ, zero, suc, _+_, _*_, _/_, _%_, _^_, _≤_, _<_}
+--
+--   add-comm, add-assoc, add-left-comm, zero-add, add-zero    it is a commutative sum with 0
+--   add-self, add-self-left    what is added twice goes away; eq-of-sum: two numbers whose sum is 0 are equal
+--   add-lt, add-shr, add-mod   of numbers of k digits; of the digits from k on, and below k
+--   swap                       four terms paired the other way
+--   sums                       the laws as one set of rewriting rules: both sides of an equation of sums are sorted alike
+use mathlib.Core.Path.{_≡_, refl, sym, ap, ap₂, _∙_}
+use Prim.Native.Nat.{ℕ, zero, suc, _+_, _*_, _/_, _%_, _^_, _<_}
 use native.Mathlib.Nat.{mod-lt, le-of-suc-le-suc, not-suc-le-zero, zero-lt-suc}
-use lib.Bits.{bitXor, differ, xor-step, xor-shr, xor-mod, xor-comm, xor-self, xor-zero-l, xor-zero-r, xor-lt}
+use lib.Bits.{bitXor, differ, xor-step, xor-shr, xor-mod, xor-comm, xor-self, xor-zero-r, xor-lt}
 use lib.Arith.{bin-ind}
 use Rattle.field.specs.Field.{_⊕_}
 
@@ -22,7 +28,7 @@ differ-assoc (suc zero) (suc zero) (suc (suc z)) hx hy hz = absurd (not-suc-le-z
 differ-assoc (suc zero) (suc (suc y)) z hx hy hz = absurd (not-suc-le-zero (le-of-suc-le-suc (le-of-suc-le-suc hy)))
 differ-assoc (suc (suc x)) y z hx hy hz = absurd (not-suc-le-zero (le-of-suc-le-suc (le-of-suc-le-suc hx)))
 
-bit-lt : (a : ℕ) → a % 2 < 2
+pub bit-lt : (a : ℕ) → a % 2 < 2
 bit-lt a = mod-lt a (zero-lt-suc 1)
 
 raw-assoc : (a b c : ℕ) → bitXor (bitXor a b) c ≡ bitXor a (bitXor b c)
@@ -73,10 +79,8 @@ pub add-mod : (a b k : ℕ) → (a ⊕ b) % 2 ^ k ≡ (a % 2 ^ k) ⊕ (b % 2 ^ k
 unfolding _⊕_
 add-mod a b k = xor-mod a b k
 
--- both sides of an equation of sums are sorted alike, and equal terms cancel
 pub ruleset sums = (add-assoc, add-comm, add-left-comm, add-self, add-self-left, zero-add, add-zero)
 
--- the four terms of two sums, paired the other way
 pub swap : (a b c d : ℕ) → (a ⊕ b) ⊕ (c ⊕ d) ≡ (a ⊕ c) ⊕ (b ⊕ d)
 swap a b c d = simp sums
 

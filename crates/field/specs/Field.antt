@@ -4,9 +4,15 @@
 --   sum n f    f 0 ⊕ .. ⊕ f (n - 1)
 --   a · b      the product
 --   power a n  a · .. · a, n times
+--   polynomial-product, remainder, product    of polynomials over bits; the product is the remainder of the polynomials' product
 --
--- A number stands for the polynomial over bits whose coefficients are its binary digits. The product is given for any degree k + 1 and
--- any modulus of that degree; the field is the one of degree 8 and modulus 0x11D.
+-- A number stands for the polynomial over bits whose coefficients are its binary digits. The product is given for any degree k and any
+-- modulus of that degree; the field is the one of degree 8 and modulus 0x11D.
+--
+-- Shown in proofs/: the remainder is below 2 ^ k and differs from the polynomial by a multiple of the modulus, and nothing else does
+-- (Remainder.antt: remainder-below, remainder-differs, remainder-only); so is a · b the remainder of the polynomials' product by 0x11D
+-- (Gf256.antt: product-differs, product-only); sum and product make a field (field); and the powers of 2 run through all 255 nonzero
+-- values (Powers.antt: generator).
 use Prim.Native.Nat.{ℕ, zero, suc, _+_, _*_, _/_, _%_, _^_}
 use lib.Bits.{bitXor}
 
@@ -20,22 +26,22 @@ sum (suc n) f = f n ⊕ sum n f
 
 -- the product of the polynomials a and b, b of n digits: a shifted by i for each digit i of b that is set
 unfoldable pub polynomial-product : ℕ → ℕ → ℕ → ℕ
-polynomial-product zero a b = 0
-polynomial-product (suc n) a b = (b % 2 * a) ⊕ polynomial-product n (a * 2) (b / 2)
+polynomial-product n a b = sum n (λ i. b / 2 ^ i % 2 * (a * 2 ^ i))
 
--- the remainder of the polynomial y, of k + 1 + n digits, by a modulus of degree k + 1: from the top digit down, the modulus is shifted
--- under each digit that is set, and taken away
+-- the remainder of the polynomial y, of k + n digits, by a modulus of degree k: from the top digit down, the modulus is shifted under
+-- each digit that is set, and taken away
 unfoldable pub remainder : ℕ → ℕ → ℕ → ℕ → ℕ
 remainder k modulus zero y = y
-remainder k modulus (suc n) y = remainder k modulus n (y ⊕ (y / 2 ^ (suc k + n) % 2 * (modulus * 2 ^ n)))
+remainder k modulus (suc n) y = remainder k modulus n (y ⊕ (y / 2 ^ (k + n) % 2 * (modulus * 2 ^ n)))
 
--- (of a number of more than k + 1 digits the k + 1 low ones count, so that the laws of the product hold of all numbers)
+-- the product of two polynomials of k digits, by a modulus of degree k (of larger numbers the k low digits count, so that the laws of the
+-- product hold of all numbers)
 unfoldable pub product : ℕ → ℕ → ℕ → ℕ → ℕ
-product k modulus a b = remainder k modulus k (polynomial-product (suc k) (a % 2 ^ suc k) b)
+product k modulus a b = remainder k modulus k (polynomial-product k (a % 2 ^ k) b)
 
 infixl 70 _·_
 abbrev pub _·_ : ℕ → ℕ → ℕ
-a · b = product 7 0x11D a b
+a · b = product 8 0x11D a b
 
 unfoldable pub power : ℕ → ℕ → ℕ
 power a zero = 1

@@ -1,18 +1,19 @@
 -- The digits that `io::decimal` writes are those of the specification.
 --
 --   written      the fewest digits that hold n, as `io` has them, are `decimal n`
---   five         a number below 100,000 has at most five
+--   short        a number below 10 ^ k has at most k digits, for k = 1 or more
 use Prim.Native.Nat.{ℕ, zero, suc, _+_, _*_, _-_, _/_, _%_, _^_, _≤_, _<_}
 use mathlib.Core.Path.{_≡_, sym, ap, _∙_}
 use mathlib.Core.Logic.{⊎-elim}
 use mathlib.Core.List.{List, [], _∷_, _++_}
-use native.Mathlib.Nat.{mod-lt, mod-eq-of-lt, pow-suc, pow-le-pow-right, one-le-pow, eq-zero-or-pos, div-lt-iff-lt-mul, le-div-iff-mul-le}
+use native.Mathlib.Nat.{mod-lt, mod-eq-of-lt, pow-suc, one-le-pow, eq-zero-or-pos, div-lt-iff-lt-mul, le-div-iff-mul-le}
 use native.Mathlib.Numerals.{unary-clauses}
 use native.Mathlib.Omega.{arith}
 use borrow.Author.Tests.{lt-ltb, le-ltb}
 use lib.Dec.{lit<}
+use lib.ListN.{length, length-append}
 use Rattle.io.specs.Digits.{glyph, digits, Fewest}
-use Rattle.lines.specs.Lines.{digits-up-to, decimal}
+use Rattle.lines.specs.Lines.{digit, digits-up-to, decimal}
 
 -- the code of a decimal digit
 glyph-below : (d : ℕ) → d < 10 → glyph d ≡ 48 + d
@@ -58,9 +59,27 @@ pub written : (n k : ℕ) → Fewest 10 1 n k → digits 10 k n ≡ decimal n
 unfolding decimal
 written n k h = same-digits (suc n) n k (omega arith) h
 
-pub five : (n k : ℕ) → n < 100000 → Fewest 10 1 n k → k ≤ 5
-five n k b h =
+-- ---- how many digits
+-- n has one digit, or is one digit behind n / 10
+one-or-more : (most n : ℕ) (P : List ℕ → Type 0) → (n < 10 → P (digit n)) → (10 ≤ n → P (digits-up-to most (n / 10) ++ digit (n % 10)))
+    → P (digits-up-to (suc most) n)
+one-or-more most n P f g =
     ⊎-elim
-    (λ e. omega arith)
-    (λ p. absurd (omega (arith, h .2 (omega arith), pow-le-pow-right {n = 10} (lit< tt) {i = 5} {j = k - 1} (omega arith))))
-    (eq-zero-or-pos (k - 5))
+    (λ z. let l : 10 ≤ n = omega arith in rw (more-digits most n l) (g l))
+    (λ z. let l : n < 10 = omega arith in rw (one-digit most n l) (f l))
+    (eq-zero-or-pos (10 - n))
+
+up-to : (k most n : ℕ) → n < 10 ^ suc k → length (digits-up-to most n) ≤ suc k
+unfolding digits-up-to
+up-to k zero n h = omega arith
+up-to zero (suc most) n h = one-or-more most n (λ (s : List ℕ). length s ≤ 1) (λ l. omega arith) (λ l. absurd (omega (arith, h)))
+up-to (suc k) (suc most) n h =
+    one-or-more most n (λ (s : List ℕ). length s ≤ suc (suc k))
+    (λ l. omega arith)
+    (λ l.
+    simp length-append
+    (omega (arith, up-to k most (n / 10) (div-lt-iff-lt-mul (lit< tt) .1 (rw (← pow-suc 10 (suc k)) h)))))
+
+pub short : (k n : ℕ) → n < 10 ^ suc k → length (decimal n) ≤ suc k
+unfolding decimal
+short k n h = up-to k (suc n) n h

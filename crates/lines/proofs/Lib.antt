@@ -1,4 +1,5 @@
 pub mod Decimal
 pub mod Pieces
 pub mod PerThousand
-pub mod Tests
+pub mod Samples
+pub mod Lengths

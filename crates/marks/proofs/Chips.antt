@@ -1,13 +1,18 @@
--- The chip places by the count, and the record after a chip mark is placed or lifted.
+-- The chip places by the count, and the record after a chip mark is placed or lifted, as the code makes it.
+--
+--   chips-many, places-many            the last case of a match on the count
+--   place-first, place-second          a chip after none, after one
+--   lift-only, lift-first, lift-second  a marked chip that is the only one, the first of two, the second of two
 use Prim.Native.Nat.{ℕ, zero, suc}
 use mathlib.Core.Path.{_≡_, refl, sym, _∙_}
 use mathlib.Core.Bool.{true, false, false≢true, or-false}
 use mathlib.Core.List.{[], _∷_}
 use lib.Dec.{eqb}
 use borrow.Author.Tests.{eq-eqb, ne-eqb}
-use Rattle.marks.specs.Marks.{chips-of, chips, is-marked, places-in-range}
-use Rattle.marks.specs.Place.{with-chip, without-chip}
+use Rattle.marks.specs.Marks.{chips-of, marked-chips, is-marked, places-in-range}
+use Rattle.marks.specs.Mark.{of-chips, marked}
 use Rattle.marks.specs.declared.Marks.{Marks}
+use Rattle.marks.specs.declared.MarkCall.the-variants.{PlaceChip, LiftChip}
 
 -- ---- the last case of a match on the count
 pub chips-many : (n a b : ℕ) → (n ≡ 0 → ⊥) → (n ≡ 1 → ⊥) → chips-of n a b ≡ a ∷ b ∷ []
@@ -22,35 +27,37 @@ places-many (suc (suc zero)) a b h i j = absurd (j refl)
 places-many (suc (suc (suc n))) a b h i j = refl
 
 -- ---- the record after a chip mark is placed or lifted
-module _ (k : Marks) (p : ℕ) where
-  pub place-first : k .count ≡ 0 → with-chip k p ≡ record { card = k .card; count = 1; first = p; second = 255 }
-  unfolding with-chip
+module _ (m : Marks) (p : ℕ) where
+  pub place-first : m .count ≡ 0 → marked m (PlaceChip p) ≡ of-chips (m .card) (p ∷ [])
+  unfolding marked
   place-first e = simp e
 
-  pub place-second : k .count ≡ 1 → with-chip k p ≡ record { card = k .card; count = 2; first = k .first; second = p }
-  unfolding with-chip
+  pub place-second : m .count ≡ 1 → marked m (PlaceChip p) ≡ of-chips (m .card) (m .first ∷ p ∷ [])
+  unfolding marked
   place-second e = simp e
 
-  -- a marked chip is the only one, the first of two, or the second of two
-  only : k .count ≡ 1 → is-marked k p ≡ true → eqb p (k .first) ≡ true
+  -- a marked chip that is the only one is the first
+  only : m .count ≡ 1 → is-marked m p ≡ true → eqb p (m .first) ≡ true
   unfolding is-marked
-  only e m = sym (or-false _) ∙ (simp e at m)
+  only e h = sym (or-false _) ∙ (simp e at h)
 
-  pub lift-only : k .count ≡ 1 → is-marked k p ≡ true → without-chip k p ≡ record { card = k .card; count = 0; first = 255; second = 255 }
-  unfolding without-chip
-  lift-only e m = simp (e, only e m)
+  pub lift-only : m .count ≡ 1 → is-marked m p ≡ true → marked m (LiftChip p) ≡ of-chips (m .card) []
+  unfolding marked
+  lift-only e h = simp (e, only e h)
 
-  many : is-marked k p ≡ true → (k .count ≡ 1 → ⊥) → chips k ≡ k .first ∷ k .second ∷ []
+  -- a marked chip that is not the only one is one of two
+  many : is-marked m p ≡ true → (m .count ≡ 1 → ⊥) → marked-chips m ≡ m .first ∷ m .second ∷ []
   unfolding is-marked
-  many m h = chips-many (k .count) (k .first) (k .second) (λ e. false≢true (simp e at m)) h
+  many h n = chips-many (m .count) (m .first) (m .second) (λ e. false≢true (simp e at h)) n
 
-  pub lift-first : (k .count ≡ 1 → ⊥) → is-marked k p ≡ true → p ≡ k .first → without-chip k p ≡ record { card = k .card; count = 1; first = k .second; second = 255 }
-  unfolding without-chip
-  lift-first h m e = simp (many m h, eq-eqb p (k .first) e)
+  pub lift-first : (m .count ≡ 1 → ⊥) → is-marked m p ≡ true → p ≡ m .first → marked m (LiftChip p) ≡ of-chips (m .card) (m .second ∷ [])
+  unfolding marked
+  lift-first n h e = simp (many h n, eq-eqb p (m .first) e)
 
-  pub lift-second : (k .count ≡ 1 → ⊥) → is-marked k p ≡ true → (p ≡ k .first → ⊥) → without-chip k p ≡ record { card = k .card; count = 1; first = k .first; second = 255 }
-  unfolding without-chip is-marked
-  lift-second h m n =
-      let other = ne-eqb p (k .first) n in
-      let second : eqb p (k .second) ≡ true = sym (or-false _) ∙ (simp (many m h, other) at m) in
-      simp (many m h, other, second)
+  pub lift-second : (m .count ≡ 1 → ⊥) → is-marked m p ≡ true → (p ≡ m .first → ⊥)
+      → marked m (LiftChip p) ≡ of-chips (m .card) (m .first ∷ [])
+  unfolding marked is-marked
+  lift-second n h d =
+      let other = ne-eqb p (m .first) d in
+      let second : eqb p (m .second) ≡ true = sym (or-false _) ∙ (simp (many h n, other) at h) in
+      simp (many h n, other, second)

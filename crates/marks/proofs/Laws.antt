@@ -1,242 +1,237 @@
--- Laws of the mark record.
+-- Laws of the mark record and of the calls that place and lift a mark: what the crates above this one use.
 --
---   lawful-cause, cause-lawful        a record is lawful exactly when no cause is given
---   bytes-of-bytes, of-bytes-bytes    a record and its four bytes
---   can-place-chip, can-lift-chip, can-place-card, can-lift-card    what holds where a call is not refused
---   placed-chip-lawful, lifted-chip-lawful, placed-card-lawful, lifted-card-lawful    a call that is done leaves a lawful record
---   first-four, four-long             a record is made of the first four bytes, and has four
---   third-refused                     a third chip mark is refused
-use Prim.Native.Nat.{ℕ, zero, suc, _≤_, _<_}
-use mathlib.Core.Path.{_≡_, refl, sym, _∙_}
-use mathlib.Core.Logic.{_⊎_, inl, inr, _≢_, ⊎-elim, by-cases}
-use mathlib.Core.Bool.{Bool, true, false, _&&_, _||_, not, false≢true, true≢false}
-use mathlib.Core.List.{List, [], _∷_}
-use lib.ListN.{length, getD}
+--   lawful-cause, cause-lawful          a record is lawful exactly when no cause is given
+--   four-long                           a record has four bytes
+--   bytes-of-bytes, of-bytes-bytes      four bytes are those of their record; a lawful record is that of its bytes
+--   bytes-marks-in, marks-in-bytes      the same, for bytes of which only the length is known
+--   marks-in-other                      bytes of another length are refused with 6
+--   few-chips, chips-counted, of-few    a lawful record: its chips are few; the count counts them; it is that of its card mark and its chips
+--   mark-causes, mark-cause-is          the number of a call is exactly the lowest of the causes that hold
+--   Can, can, mark-can                  a call is not refused exactly when these hold
+--   within                              the number, where the record is lawful and the call within its range
+--   marked-lawful                       a call that is done leaves a lawful record
+--   mark-done, mark-refused             what is learnt of a call by its number; mark-done-lawful: a lawful record stays so, done or refused
+--   already-refused                     a mark that is there is 7, even where two are
+--   third-refused, card-refused         a third chip mark is 8, and another card
+--   absent-refused                      a mark to lift that is not there is 9
+--   again, again-refused                a call that was done, made once more: 7 for placing, 9 for lifting
+use Prim.Native.Nat.{ℕ, zero, suc, _<_}
+use mathlib.Core.Path.{_≡_, refl, sym, ap, _∙_, subst}
+use mathlib.Core.Logic.{_≢_, by-cases}
+use mathlib.Core.Bool.{Bool, true, false, _&&_, _||_, not, true≢false, false≢true}
+use mathlib.Core.List.{List, [], _∷_, _++_}
+use lib.ListN.{length}
 use native.Mathlib.Decide.{ℕ-discrete}
 use native.Mathlib.Omega.{arith}
-use lib.Dec.{eqb, ltb}
-use borrow.Author.Tests.{eq-eqb, ne-eqb, lt-ltb, ltb-true, eqb-true, eqb-false, not-false}
-use Rattle.refusal.specs.Refusal.{if}
-use Rattle.marks.specs.Marks.{Lawful, CardInRange, is-marked, card-byte, bytes, of-bytes, card-in-range, places-in-range, in-range, two-equal, marks-cause}
-use Rattle.marks.specs.Place.{with-chip, without-chip, with-card, place-chip-cause, lift-chip-cause, place-card-cause, lift-card-cause}
+use lib.Dec.{eqb}
+use borrow.Author.Tests.{eq-eqb, ne-eqb, lt-ltb, ltb-true, eqb-false, not-false}
+use Rattle.base.specs.Base.{if, In, is-in}
+use Rattle.base.proofs.Lists.{in-is-in, is-in-in}
+use Rattle.answer.specs.Answer.{Answer, done, refused, By}
+use Rattle.answer.specs.Cause.{Cause, cause, lowest}
+use Rattle.answer.proofs.Causes.{none-holds, first-holds, Lowest, lowest-is, by-accepted}
+use Rattle.marks.specs.Marks.{LawfulMarks, CardInRange, marked-chips, is-marked, in-range, two-equal, marks-cause}
+use Rattle.marks.specs.Marks.{card-byte, bytes, of-bytes, marks-in}
+use Rattle.marks.specs.Mark.{of-chips, remove, marked, card-is, some-card, asked-in-range, already, too-many, absent, mark-cause, MarkDone}
 use Rattle.marks.specs.declared.CardMark.{CardMark}
 use Rattle.marks.specs.declared.CardMark.the-variants.{None, Card}
 use Rattle.marks.specs.declared.Marks.{Marks}
-use Rattle.marks.proofs.Causes.{none-holds}
-use Rattle.marks.proofs.Chips.{place-first, place-second, lift-only, lift-first, lift-second}
-
--- ---- a test that passed, taken apart
-both : (s t : Bool) → (s && t) ≡ true → (s ≡ true) × (t ≡ true)
-both true t e = (refl, e)
-both false t e = absurd (false≢true e)
-
-neither : (s t : Bool) → (s || t) ≡ false → (s ≡ false) × (t ≡ false)
-neither true t e = absurd (true≢false e)
-neither false t e = (refl, e)
-
--- ---- the ranges, as facts and as tests
-card-fact : (c : CardMark) → card-in-range c ≡ true → CardInRange c
-card-fact None e = tt
-card-fact (Card j) e = ltb-true j 5 e
-
-card-test : (c : CardMark) → CardInRange c → card-in-range c ≡ true
-card-test None h = refl
-card-test (Card j) h = lt-ltb j 5 h
-
-record Places (n a b : ℕ) : Type 0 where
-  count : n ≤ 2
-  first : ((1 ≤ n) × (a < 45)) ⊎ ((n ≡ 0) × (a ≡ 255))
-  second : ((n ≡ 2) × (b < 45)) ⊎ ((n < 2) × (b ≡ 255))
-
-places-fact : (n a b : ℕ) → places-in-range n a b ≡ true → Places n a b
-places-fact zero a b e =
-    let h = both _ _ e in
-    record { count = omega arith; first = inr (refl, eqb-true a 255 (h .0)); second = inr (omega arith, eqb-true b 255 (h .1)) }
-places-fact (suc zero) a b e =
-    let h = both _ _ e in
-    record { count = omega arith; first = inl (omega arith, ltb-true a 45 (h .0)); second = inr (omega arith, eqb-true b 255 (h .1)) }
-places-fact (suc (suc zero)) a b e =
-    let h = both _ _ e in
-    record { count = omega arith; first = inl (omega arith, ltb-true a 45 (h .0)); second = inl (refl, ltb-true b 45 (h .1)) }
-places-fact (suc (suc (suc n))) a b e = absurd (false≢true e)
-
--- a place in use holds a position, an unused one 255
-module _ {k : Marks} (l : Lawful k) where
-  pub first-used : 1 ≤ k .count → k .first < 45
-  first-used h = ⊎-elim (λ w. w .1) (λ w. omega arith) (l .first)
-
-  pub first-unused : k .count ≡ 0 → k .first ≡ 255
-  first-unused h = ⊎-elim (λ w. omega arith) (λ w. w .1) (l .first)
-
-  pub second-used : k .count ≡ 2 → k .second < 45
-  second-used h = ⊎-elim (λ w. w .1) (λ w. omega arith) (l .second)
-
-  pub second-unused : k .count < 2 → k .second ≡ 255
-  second-unused h = ⊎-elim (λ w. omega arith) (λ w. w .1) (l .second)
-
-  places-test : places-in-range (k .count) (k .first) (k .second) ≡ true
-  places-test = by-cases (ℕ-discrete (k .count) 0)
-      (λ e. simp (e, eq-eqb (k .first) 255 (first-unused e), eq-eqb (k .second) 255 (second-unused (omega arith))))
-      (λ z. by-cases (ℕ-discrete (k .count) 1)
-      (λ e. simp (e, lt-ltb (k .first) 45 (first-used (omega arith)), eq-eqb (k .second) 255 (second-unused (omega arith))))
-      (λ o. let e : k .count ≡ 2 = omega (arith, l .count) in simp (e, lt-ltb (k .first) 45 (first-used (omega arith)), lt-ltb (k .second) 45 (second-used e))))
-
-  lawful-range : in-range k ≡ true
-  unfolding in-range
-  lawful-range = simp (card-test (k .card) (l .card), places-test)
-
-  lawful-two : two-equal k ≡ false
-  unfolding two-equal
-  lawful-two = by-cases (ℕ-discrete (k .count) 2)
-      (λ e. simp (eq-eqb (k .count) 2 e, ne-eqb (k .first) (k .second) (l .differ e)))
-      (λ n. simp (ne-eqb (k .count) 2 n))
-
-tests-lawful : (k : Marks) → in-range k ≡ true → two-equal k ≡ false → Lawful k
-unfolding in-range two-equal
-tests-lawful k r t =
-    let h = both _ _ r in
-    let p = places-fact (k .count) (k .first) (k .second) (h .1) in
-    record {
-      card = card-fact (k .card) (h .0);
-      count = p .count;
-      first = p .first;
-      second = p .second;
-      differ = λ e f. true≢false (sym (simp (eq-eqb (k .count) 2 e, eq-eqb (k .first) (k .second) f)) ∙ t);
-    }
+use Rattle.marks.specs.declared.MarkCall.{MarkCall}
+use Rattle.marks.specs.declared.MarkCall.the-variants.{PlaceChip, LiftChip, PlaceCard, LiftCard}
+use Rattle.marks.proofs.Tests.{both, neither, places-test, lawful-range, lawful-two, tests-lawful}
+use Rattle.marks.proofs.Few.{Few, places-few, places-count, places-back, few-lawful, kept, added, added-in, removed, removed-out}
 
 -- ---- a record is lawful exactly when no cause is given
-pub lawful-cause : (k : Marks) → Lawful k → marks-cause k ≡ 0
+pub lawful-cause : (m : Marks) → LawfulMarks m → marks-cause m ≡ 0
 unfolding marks-cause
-lawful-cause k l = simp (lawful-range l, lawful-two l)
+lawful-cause m l = simp (lawful-range l, lawful-two l)
 
-pub cause-lawful : (k : Marks) → marks-cause k ≡ 0 → Lawful k
+pub cause-lawful : (m : Marks) → marks-cause m ≡ 0 → LawfulMarks m
 unfolding marks-cause
-cause-lawful k e =
-    let h = none-holds 5 _ _ e in
-    let i = none-holds 6 _ _ (h .1) in
-    tests-lawful k (not-false _ (h .0)) (i .0)
+cause-lawful m e =
+    let six = none-holds 5 _ (cause 7 (two-equal m) ∷ []) e in
+    tests-lawful m (not-false _ (six .0)) (none-holds 6 _ [] (six .1) .0)
 
--- ---- a record and its four bytes
+-- ---- a record and its bytes
+pub four-long : (m : Marks) → length (bytes m) ≡ 4
+four-long m = refl
+
 pub bytes-of-bytes : (a b c d : ℕ) → bytes (of-bytes (a ∷ b ∷ c ∷ d ∷ [])) ≡ a ∷ b ∷ c ∷ d ∷ []
 unfolding of-bytes
-bytes-of-bytes a b c d = by-cases (ℕ-discrete a 255)
-    (λ e. simp e)
-    (λ n. simp (ne-eqb a 255 n))
+bytes-of-bytes a b c d = by-cases (ℕ-discrete a 255) (λ e. simp e) (λ n. simp (ne-eqb a 255 n))
 
-card-back : (c : CardMark) → CardInRange c → if (eqb (card-byte c) 255) None (Card (card-byte c)) ≡ c
+card-back : (card : CardMark) → CardInRange card → if (eqb (card-byte card) 255) None (Card (card-byte card)) ≡ card
 card-back None h = refl
 card-back (Card j) h = simp (ne-eqb j 255 (λ e. omega arith))
 
-pub of-bytes-bytes : (k : Marks) → Lawful k → of-bytes (bytes k) ≡ k
+pub of-bytes-bytes : (m : Marks) → LawfulMarks m → of-bytes (bytes m) ≡ m
 unfolding of-bytes
-of-bytes-bytes k l = simp (card-back (k .card) (l .card))
+of-bytes-bytes m l = simp (card-back (m .card) (l .card))
+
+pub marks-in-bytes : (m : Marks) → LawfulMarks m → marks-in (bytes m) ≡ m
+unfolding marks-in
+marks-in-bytes m l = of-bytes-bytes m l
+
+pub bytes-marks-in : (b : List ℕ) → length b ≡ 4 → bytes (marks-in b) ≡ b
+unfolding marks-in
+bytes-marks-in [] e = absurd (omega arith)
+bytes-marks-in (w ∷ []) e = absurd (omega arith)
+bytes-marks-in (w ∷ x ∷ []) e = absurd (omega arith)
+bytes-marks-in (w ∷ x ∷ y ∷ []) e = absurd (omega arith)
+bytes-marks-in (w ∷ x ∷ y ∷ z ∷ []) e = bytes-of-bytes w x y z
+bytes-marks-in (w ∷ x ∷ y ∷ z ∷ v ∷ b) e = absurd (omega arith)
+
+pub marks-in-other : (b : List ℕ) → length b ≢ 4 → marks-cause (marks-in b) ≡ 6
+unfolding marks-in marks-cause in-range two-equal
+marks-in-other b h = simp (ne-eqb (length b) 4 h)
+
+-- ---- the marked chips of a lawful record
+pub few-chips : (m : Marks) → LawfulMarks m → Few (marked-chips m)
+few-chips m l = places-few (m .count) (m .first) (m .second) (places-test l) (l .differ)
+
+pub chips-counted : (m : Marks) → LawfulMarks m → length (marked-chips m) ≡ m .count
+chips-counted m l = places-count (m .count) (m .first) (m .second) (l .count)
+
+pub of-few : (m : Marks) → LawfulMarks m → of-chips (m .card) (marked-chips m) ≡ m
+of-few m l = places-back (m .card) (m .count) (m .first) (m .second) (places-test l)
+
+-- ---- the number of a call
+abbrev pub mark-causes : Marks → MarkCall → List Cause
+mark-causes m c =
+    cause 6 (not (in-range m && asked-in-range c)) ∷ cause 7 (two-equal m || already m c) ∷ cause 8 (too-many m c) ∷ cause 9 (absent m c) ∷ []
+
+pub mark-cause-is : (m : Marks) (c : MarkCall) → Lowest (mark-cause m c) (mark-causes m c)
+unfolding mark-cause
+mark-cause-is m c = lowest-is (mark-causes m c) (omega arith, (omega arith, (omega arith, (omega arith, tt))))
 
 -- ---- what holds where a call is not refused
-asked : (k : Marks) (p limit : ℕ) → not (in-range k && ltb p limit) ≡ false → (in-range k ≡ true) × (p < limit)
-asked k p limit e = let h = both _ _ (not-false _ e) in (h .0, ltb-true p limit (h .1))
+pub record Can (m : Marks) (c : MarkCall) : Type 0 where
+  pub lawful : LawfulMarks m
+  pub asked : asked-in-range c ≡ true
+  pub new : already m c ≡ false
+  pub room : too-many m c ≡ false
+  pub there : absent m c ≡ false
 
-pub record CanPlaceChip (k : Marks) (p : ℕ) : Type 0 where
-  pub lawful : Lawful k
-  pub position : p < 45
-  pub unmarked : is-marked k p ≡ false
-  pub room : k .count < 2
+pub can : (m : Marks) (c : MarkCall) → mark-cause m c ≡ 0 → Can m c
+unfolding mark-cause
+can m c e =
+    let six = none-holds 5 _ (cause 7 (two-equal m || already m c) ∷ cause 8 (too-many m c) ∷ cause 9 (absent m c) ∷ []) e in
+    let seven = none-holds 6 _ (cause 8 (too-many m c) ∷ cause 9 (absent m c) ∷ []) (six .1) in
+    let eight = none-holds 7 _ (cause 9 (absent m c) ∷ []) (seven .1) in
+    let nine = none-holds 8 _ [] (eight .1) in
+    let within = both _ _ (not-false _ (six .0)) in
+    let single = neither _ _ (seven .0) in
+    record { lawful = tests-lawful m (within .0) (single .0); asked = within .1; new = single .1; room = eight .0; there = nine .0 }
 
-pub can-place-chip : (k : Marks) (p : ℕ) → place-chip-cause k p ≡ 0 → CanPlaceChip k p
-unfolding place-chip-cause
-can-place-chip k p e =
-    let h = none-holds 5 _ _ e in
-    let i = none-holds 6 _ _ (h .1) in
-    let j = none-holds 7 _ _ (i .1) in
-    let a = asked k p 45 (h .0) in
-    let n = neither _ _ (i .0) in
-    let l = tests-lawful k (a .0) (n .0) in
-    let two = eqb-false (k .count) 2 (j .0) in
-    record { lawful = l; position = a .1; unmarked = n .1; room = omega (arith, l .count, two) }
+-- of a lawful record and a call within its range
+pub within : (m : Marks) (c : MarkCall) → LawfulMarks m → asked-in-range c ≡ true
+    → mark-cause m c ≡ lowest (cause 7 (already m c) ∷ cause 8 (too-many m c) ∷ cause 9 (absent m c) ∷ [])
+unfolding mark-cause
+within m c l h = simp (lawful-range l, lawful-two l, h)
 
-pub can-lift-chip : (k : Marks) (p : ℕ) → lift-chip-cause k p ≡ 0 → Lawful k × (is-marked k p ≡ true)
-unfolding lift-chip-cause
-can-lift-chip k p e =
-    let h = none-holds 5 _ _ e in
-    let i = none-holds 6 _ _ (h .1) in
-    let j = none-holds 8 _ _ (i .1) in
-    (tests-lawful k (asked k p 45 (h .0) .0) (i .0), not-false _ (j .0))
-
-pub can-place-card : (k : Marks) (j : ℕ) → place-card-cause k j ≡ 0 → Lawful k × (j < 5)
-unfolding place-card-cause
-can-place-card k j e =
-    let h = none-holds 5 _ _ e in
-    let i = none-holds 6 _ _ (h .1) in
-    let a = asked k j 5 (h .0) in
-    (tests-lawful k (a .0) (neither _ _ (i .0) .0), a .1)
-
-pub can-lift-card : (k : Marks) → lift-card-cause k ≡ 0 → Lawful k
-unfolding lift-card-cause
-can-lift-card k e =
-    let h = none-holds 5 _ _ e in
-    let i = none-holds 6 _ _ (h .1) in
-    tests-lawful k (not-false _ (h .0)) (i .0)
+-- and so it is refused only where one of them fails
+pub mark-can : (m : Marks) (c : MarkCall) → Can m c → mark-cause m c ≡ 0
+mark-can m c h = within m c (h .lawful) (h .asked) ∙ simp (h .new, h .room, h .there)
 
 -- ---- a call that is done leaves a lawful record
-no-chips-lawful : {c : CardMark} → CardInRange c → Lawful (record { card = c; count = 0; first = 255; second = 255 })
-no-chips-lawful h = record { card = h; count = omega arith; first = inr (refl, refl); second = inr (omega arith, refl); differ = λ e. omega arith }
-
-one-chip-lawful : {c : CardMark} {p : ℕ} → CardInRange c → p < 45 → Lawful (record { card = c; count = 1; first = p; second = 255 })
-one-chip-lawful h i = record { card = h; count = omega arith; first = inl (omega arith, i); second = inr (omega arith, refl); differ = λ e. omega arith }
-
-two-chips-lawful : {c : CardMark} {p q : ℕ} → CardInRange c → p < 45 → q < 45 → p ≢ q → Lawful (record { card = c; count = 2; first = p; second = q })
-two-chips-lawful h i j d = record { card = h; count = omega arith; first = inl (omega arith, i); second = inl (refl, j); differ = λ e. d }
-
--- where one chip is marked, an unmarked chip is another; a marked chip that is not the only one is one of two
-unmarked-first : (k : Marks) (p : ℕ) → k .count ≡ 1 → is-marked k p ≡ false → k .first ≢ p
+unmarked : (m : Marks) (p : ℕ) → is-marked m p ≡ false → In p (marked-chips m) → ⊥
 unfolding is-marked
-unmarked-first k p e m f = true≢false (sym (simp (e, eq-eqb p (k .first) (sym f))) ∙ m)
+unmarked m p h i = true≢false (sym (in-is-in p (marked-chips m) i) ∙ h)
 
-marked-two : (k : Marks) (p : ℕ) → Lawful k → (k .count ≡ 1 → ⊥) → is-marked k p ≡ true → k .count ≡ 2
-unfolding is-marked
-marked-two k p l n m =
-    let z : (k .count ≡ 0 → ⊥) = λ e. false≢true (simp e at m) in
-    omega (arith, l .count, n, z)
+placed-few : (m : Marks) (p : ℕ) → Can m (PlaceChip p) → Few (marked-chips m ++ (p ∷ []))
+placed-few m p h =
+    let room : length (marked-chips m) < 2 = omega (arith, chips-counted m (h .lawful), h .lawful .count, eqb-false (m .count) 2 (h .room)) in
+    added p (marked-chips m) (few-chips m (h .lawful)) room (ltb-true p 45 (h .asked)) (unmarked m p (h .new))
 
-pub placed-chip-lawful : (k : Marks) (p : ℕ) → place-chip-cause k p ≡ 0 → Lawful (with-chip k p)
-placed-chip-lawful k p e =
-    let f = can-place-chip k p e in
-    let l = f .lawful in
-    by-cases (ℕ-discrete (k .count) 0)
-    (λ n. rw (place-first k p n) (one-chip-lawful (l .card) (f .position)))
-    (λ n. let o : k .count ≡ 1 = omega (arith, f .room) in
-    rw (place-second k p o) (two-chips-lawful (l .card) (first-used l (omega arith)) (f .position) (unmarked-first k p o (f .unmarked))))
+pub marked-lawful : (m : Marks) (c : MarkCall) → mark-cause m c ≡ 0 → LawfulMarks (marked m c)
+unfolding marked
+marked-lawful m (PlaceChip p) e = let h = can m (PlaceChip p) e in few-lawful (m .card) (marked-chips m ++ (p ∷ [])) (h .lawful .card) (placed-few m p h)
+marked-lawful m (LiftChip p) e =
+    let l = can m (LiftChip p) e .lawful in
+    few-lawful (m .card) (remove p (marked-chips m)) (l .card) (removed p (marked-chips m) (few-chips m l))
+marked-lawful m (PlaceCard j) e =
+    let h = can m (PlaceCard j) e in
+    let l = h .lawful in
+    record { card = ltb-true j 5 (h .asked); count = l .count; first = l .first; second = l .second; differ = l .differ }
+marked-lawful m LiftCard e =
+    let l = can m LiftCard e .lawful in
+    record { card = tt; count = l .count; first = l .first; second = l .second; differ = l .differ }
 
-pub lifted-chip-lawful : (k : Marks) (p : ℕ) → lift-chip-cause k p ≡ 0 → Lawful (without-chip k p)
-lifted-chip-lawful k p e =
-    let f = can-lift-chip k p e in
-    let l = f .0 in
-    by-cases (ℕ-discrete (k .count) 1)
-    (λ o. rw (lift-only k p o (f .1)) (no-chips-lawful (l .card)))
-    (λ n. let t = marked-two k p l n (f .1) in
-    by-cases (ℕ-discrete p (k .first))
-    (λ g. rw (lift-first k p n (f .1) g) (one-chip-lawful (l .card) (second-used l t)))
-    (λ g. rw (lift-second k p n (f .1) g) (one-chip-lawful (l .card) (first-used l (omega arith)))))
+-- ---- a call by its number
+pub mark-done : (m : Marks) (c : MarkCall) (a : Answer) (m′ : Marks) → mark-cause m c ≡ 0 → MarkDone m c a m′
+    → (a ≡ done) × (m′ ≡ marked m c)
+unfolding MarkDone
+mark-done m c a m′ e d = by-accepted (mark-cause m c) a (m′ ≡ m) ((a ≡ done) × (m′ ≡ marked m c)) e d
 
-with-card-lawful : (k : Marks) (c : CardMark) → Lawful k → CardInRange c → Lawful (with-card k c)
-unfolding with-card
-with-card-lawful k c l h = record { card = h; count = l .count; first = l .first; second = l .second; differ = l .differ }
+pub mark-refused : (m : Marks) (c : MarkCall) (a : Answer) (m′ : Marks) (n : ℕ) → mark-cause m c ≡ suc n → MarkDone m c a m′
+    → (a ≡ refused (suc n)) × (m′ ≡ m)
+unfolding MarkDone
+mark-refused m c a m′ n e d = subst (λ (k : ℕ). By k a (m′ ≡ m) ((a ≡ done) × (m′ ≡ marked m c))) e d
 
-pub placed-card-lawful : (k : Marks) (j : ℕ) → place-card-cause k j ≡ 0 → Lawful (with-card k (Card j))
-placed-card-lawful k j e = let f = can-place-card k j e in with-card-lawful k (Card j) (f .0) (f .1)
+pub mark-done-lawful : (m : Marks) (c : MarkCall) (a : Answer) (m′ : Marks) → LawfulMarks m → MarkDone m c a m′ → LawfulMarks m′
+mark-done-lawful m c a m′ l d = go (mark-cause m c) refl
+  where
+    go : (n : ℕ) → mark-cause m c ≡ n → LawfulMarks m′
+    go zero e = subst LawfulMarks (sym (mark-done m c a m′ e d .1)) (marked-lawful m c e)
+    go (suc n) e = subst LawfulMarks (sym (mark-refused m c a m′ n e d .1)) l
 
-pub lifted-card-lawful : (k : Marks) → lift-card-cause k ≡ 0 → Lawful (with-card k None)
-lifted-card-lawful k e = with-card-lawful k None (can-lift-card k e) tt
+-- ---- the mark is there already, is one too many, or is not there
+pub already-refused : (m : Marks) (c : MarkCall) → LawfulMarks m → asked-in-range c ≡ true → already m c ≡ true → mark-cause m c ≡ 7
+already-refused m c l h e = within m c l h ∙ simp e (first-holds 7 (cause 8 (too-many m c) ∷ cause 9 (absent m c) ∷ []) tt)
 
--- ---- a third chip mark never lands
-pub third-refused : (k : Marks) (p : ℕ) → Lawful k → k .count ≡ 2 → p < 45 → is-marked k p ≡ false → place-chip-cause k p ≡ 8
-unfolding place-chip-cause
-third-refused k p l e h m = simp (lawful-range l, lawful-two l, lt-ltb p 45 h, m, eq-eqb (k .count) 2 e)
+pub third-refused : (m : Marks) (p : ℕ) → LawfulMarks m → m .count ≡ 2 → p < 45 → is-marked m p ≡ false → mark-cause m (PlaceChip p) ≡ 8
+third-refused m p l e h i = within m (PlaceChip p) l (lt-ltb p 45 h) ∙ simp (i, eq-eqb (m .count) 2 e)
 
--- a record is made of the first four bytes alone
-pub first-four : (b : List ℕ) (w x y z : ℕ) → w ≡ getD b 0 0 → x ≡ getD b 1 0 → y ≡ getD b 2 0 → z ≡ getD b 3 0 → of-bytes (w ∷ x ∷ y ∷ z ∷ []) ≡ of-bytes b
-unfolding of-bytes
-first-four b w x y z p q r s = rw (p, q, r, s) refl
+pub card-refused : (m : Marks) (i j : ℕ) → LawfulMarks m → m .card ≡ Card i → j < 5 → i ≢ j → mark-cause m (PlaceCard j) ≡ 8
+card-refused m i j l e h d = within m (PlaceCard j) l (lt-ltb j 5 h) ∙ simp (e, ne-eqb i j d)
 
--- and has four
-pub four-long : (k : Marks) → length (bytes k) ≡ 4
-four-long k = refl
+pub absent-refused : (m : Marks) (c : MarkCall) → LawfulMarks m → asked-in-range c ≡ true → absent m c ≡ true → mark-cause m c ≡ 9
+absent-refused m (PlaceChip p) l h e = absurd (false≢true e)
+absent-refused m (LiftChip p) l h e = within m (LiftChip p) l h ∙ simp e
+absent-refused m (PlaceCard j) l h e = absurd (false≢true e)
+absent-refused m LiftCard l h e = within m LiftCard l h ∙ simp e
+
+-- ---- a call that was done, made once more
+abbrev pub again : MarkCall → ℕ
+again (PlaceChip p) = 7
+again (LiftChip p) = 9
+again (PlaceCard j) = 7
+again LiftCard = 9
+
+not-in : (p : ℕ) (l : List ℕ) → (In p l → ⊥) → is-in p l ≡ false
+not-in p l h = go (is-in p l) refl
+  where
+    go : (t : Bool) → is-in p l ≡ t → t ≡ false
+    go true e = absurd (h (is-in-in p l e))
+    go false e = refl
+
+-- the chip that was placed is there, and the one that was lifted is not
+placed-in : (m : Marks) (p : ℕ) → Can m (PlaceChip p) → is-marked (marked m (PlaceChip p)) p ≡ true
+unfolding marked is-marked
+placed-in m p h =
+    let l = marked-chips m ++ (p ∷ []) in
+    ap (is-in p) (kept (m .card) l (placed-few m p h .few)) ∙ in-is-in p l (added-in p (marked-chips m))
+
+lifted-out : (m : Marks) (p : ℕ) → LawfulMarks m → is-marked (marked m (LiftChip p)) p ≡ false
+unfolding marked is-marked
+lifted-out m p l =
+    let f = few-chips m l in
+    let r = remove p (marked-chips m) in
+    ap (is-in p) (kept (m .card) r (removed p (marked-chips m) f .few)) ∙ not-in p r (removed-out p (marked-chips m) (f .differ))
+
+card-placed : (m : Marks) (j : ℕ) → card-is (marked m (PlaceCard j) .card) j ≡ true
+unfolding marked
+card-placed m j = eq-eqb j j refl
+
+card-lifted : (m : Marks) → not (some-card (marked m LiftCard .card)) ≡ true
+unfolding marked
+card-lifted m = refl
+
+pub again-refused : (m : Marks) (c : MarkCall) → mark-cause m c ≡ 0 → mark-cause (marked m c) c ≡ again c
+again-refused m c e = go c (can m c e) (marked-lawful m c e)
+  where
+    go : (c : MarkCall) → Can m c → LawfulMarks (marked m c) → mark-cause (marked m c) c ≡ again c
+    go (PlaceChip p) h l = already-refused (marked m (PlaceChip p)) (PlaceChip p) l (h .asked) (placed-in m p h)
+    go (LiftChip p) h l = absent-refused (marked m (LiftChip p)) (LiftChip p) l (h .asked) (ap not (lifted-out m p (h .lawful)))
+    go (PlaceCard j) h l = already-refused (marked m (PlaceCard j)) (PlaceCard j) l (h .asked) (card-placed m j)
+    go LiftCard h l = absent-refused (marked m LiftCard) LiftCard l refl (card-lifted m)

@@ -1,4 +1,6 @@
-pub mod Causes
 pub mod Chips
+pub mod Tests
+pub mod Few
 pub mod Laws
 pub mod Tied
+pub mod Witnesses

@@ -2,18 +2,19 @@
 --
 --   fresh-marks       no card mark and no chip mark
 --   bytes, of-bytes   card (255 for none), count, first, second; and back
---   chips             the marked chips in order of placing; Marked k p: p is one of them
---   Lawful            every field within its range, and two chip marks differ
+--   marks-in b        the mark record in four bytes; bytes of another length are a record outside its ranges
+--   marked-chips      the marked chips in order of placing; is-marked m p: p is one of them
+--   LawfulMarks       every field within its range, and two chip marks differ
 --   marks-cause       0 for a lawful record, else 6 or 7
 use Prim.Native.Nat.{ℕ, zero, suc, _≤_, _<_}
 use mathlib.Core.Path.{_≡_}
 use mathlib.Core.Logic.{_⊎_, _≢_}
-use mathlib.Core.Bool.{Bool, true, false, _&&_, _||_, not}
+use mathlib.Core.Bool.{Bool, true, false, _&&_, not}
 use mathlib.Core.List.{List, [], _∷_}
 use lib.Dec.{eqb, ltb}
-use lib.ListN.{getD}
-use Rattle.code.specs.Reach.{In}
-use Rattle.refusal.specs.Refusal.{if, cause, lowest}
+use lib.ListN.{length, getD}
+use Rattle.base.specs.Base.{if, is-in}
+use Rattle.answer.specs.Cause.{Cause, cause, lowest}
 use Rattle.marks.specs.declared.CardMark.{CardMark}
 use Rattle.marks.specs.declared.CardMark.the-variants.{None, Card}
 use Rattle.marks.specs.declared.Marks.{Marks}
@@ -27,10 +28,16 @@ card-byte None = 255
 card-byte (Card j) = j
 
 abbrev pub bytes : Marks → List ℕ
-bytes k = card-byte (k .card) ∷ k .count ∷ k .first ∷ k .second ∷ []
+bytes m = card-byte (m .card) ∷ m .count ∷ m .first ∷ m .second ∷ []
 
 unfoldable pub of-bytes : List ℕ → Marks
 of-bytes b = record { card = if (eqb (getD b 0 0) 255) None (Card (getD b 0 0)); count = getD b 1 0; first = getD b 2 0; second = getD b 3 0 }
+
+abbrev pub no-record : Marks
+no-record = record { card = None; count = 255; first = 255; second = 255 }
+
+unfoldable pub marks-in : List ℕ → Marks
+marks-in b = if (eqb (length b) 4) (of-bytes b) no-record
 
 -- ---- the marked chips
 abbrev pub chips-of : ℕ → ℕ → ℕ → List ℕ
@@ -38,19 +45,11 @@ chips-of zero first second = []
 chips-of (suc zero) first second = first ∷ []
 chips-of (suc (suc n)) first second = first ∷ second ∷ []
 
-abbrev pub chips : Marks → List ℕ
-chips k = chips-of (k .count) (k .first) (k .second)
-
-abbrev pub Marked : Marks → ℕ → Type 0
-Marked k p = In p (chips k)
-
--- the same as a test
-abbrev pub is-in : ℕ → List ℕ → Bool
-is-in p [] = false
-is-in p (a ∷ l) = eqb p a || is-in p l
+abbrev pub marked-chips : Marks → List ℕ
+marked-chips m = chips-of (m .count) (m .first) (m .second)
 
 unfoldable pub is-marked : Marks → ℕ → Bool
-is-marked k p = is-in p (chips k)
+is-marked m p = is-in p (marked-chips m)
 
 -- ---- lawful marks
 -- none, or a card 0 to 4: a choice of its own, so that no card number stands for none
@@ -59,12 +58,12 @@ CardInRange None = Unit {0}
 CardInRange (Card j) = j < 5
 
 -- a chip place that is in use holds a position 0 to 44, an unused one 255
-pub record Lawful (k : Marks) : Type 0 where
-  pub card : CardInRange (k .card)
-  pub count : k .count ≤ 2
-  pub first : ((1 ≤ k .count) × (k .first < 45)) ⊎ ((k .count ≡ 0) × (k .first ≡ 255))
-  pub second : ((k .count ≡ 2) × (k .second < 45)) ⊎ ((k .count < 2) × (k .second ≡ 255))
-  pub differ : k .count ≡ 2 → k .first ≢ k .second
+pub record LawfulMarks (m : Marks) : Type 0 where
+  pub card : CardInRange (m .card)
+  pub count : m .count ≤ 2
+  pub first : ((1 ≤ m .count) × (m .first < 45)) ⊎ ((m .count ≡ 0) × (m .first ≡ 255))
+  pub second : ((m .count ≡ 2) × (m .second < 45)) ⊎ ((m .count < 2) × (m .second ≡ 255))
+  pub differ : m .count ≡ 2 → m .first ≢ m .second
 
 -- ---- the same as tests, with the number of the refusal
 abbrev pub card-in-range : CardMark → Bool
@@ -78,11 +77,14 @@ places-in-range (suc (suc zero)) first second = ltb first 45 && ltb second 45
 places-in-range (suc (suc (suc n))) first second = false
 
 unfoldable pub in-range : Marks → Bool
-in-range k = card-in-range (k .card) && places-in-range (k .count) (k .first) (k .second)
+in-range m = card-in-range (m .card) && places-in-range (m .count) (m .first) (m .second)
 
 unfoldable pub two-equal : Marks → Bool
-two-equal k = eqb (k .count) 2 && eqb (k .first) (k .second)
+two-equal m = eqb (m .count) 2 && eqb (m .first) (m .second)
 
--- 6: outside its ranges; 7: both chip marks equal
+-- 6: the record is outside its ranges; 7: both chip marks equal
+abbrev pub marks-causes : Marks → List Cause
+marks-causes m = cause 6 (not (in-range m)) ∷ cause 7 (two-equal m) ∷ []
+
 unfoldable pub marks-cause : Marks → ℕ
-marks-cause k = lowest (cause 6 (not (in-range k)) ∷ cause 7 (two-equal k) ∷ [])
+marks-cause m = lowest (marks-causes m)

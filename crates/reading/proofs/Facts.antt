@@ -1,113 +1,149 @@
--- Facts about S that users rely on.
+-- Facts about S that users rely on, the marked chips ps being at most two.
 --
---   chip-one     a lawful block reached by a change of the chip kind is the only member: such damage never reads as several
---   apart        what two cards reach alike lies in marked chips only
---   never-none   with two chip marks and no card mark S is never empty
+--   chip-one     a member of S by a change of the chip kind is the only one: such damage never reads as several
 --   card-one     under a card mark S has at most one member
+--   apart        what two cards reach alike lies in marked chips
+--   never-none   with two chip marks and no card mark S is never empty
+--   unchanged    a change of no byte is of the chip kind
+--   clean-only   a lawful block is the one member of its S; clean-reads: it reads as clean; clean-lawful: only such a block does
 use mathlib.Core.Logic.{_≢_, _⊎_, inl, inr}
 use mathlib.Core.Path.{_≡_, refl, sym, ap, _∙_, subst}
-use mathlib.Core.List.{List, [], _∷_}
-use Prim.Native.Nat.{ℕ, zero, suc, _/_, _<_}
+use mathlib.Core.List.{List, [], _∷_, _++_}
+use Prim.Native.Nat.{ℕ, zero, suc, _+_, _/_, _<_, _≤_}
 use native.Mathlib.Omega.{arith}
 use lib.Dec.{T}
+use lib.ListN.{length, length-append}
 use borrow.Author.Tests.{ne-eqb}
-use Rattle.field.proofs.Tests.{same}
-use Rattle.code.specs.Block.{byte, Block, Lawful, OneMember}
+use Rattle.base.specs.Base.{In}
+use Rattle.base.proofs.Tests.{same}
+use Rattle.answer.specs.Answer.{clean}
+use Rattle.code.specs.Block.{byte, Block, Lawful, DifferOnly, OneMember}
 use Rattle.code.specs.Labels.{LabelSet}
-use Rattle.code.specs.Reach.{In, Few, keep}
-use Rattle.code.proofs.Reach.{fits, closed}
-use Rattle.code.proofs.Few.{widen, between, pair, reached-few}
+use Rattle.code.specs.Reach.{rules, Few, keep}
+use Rattle.code.proofs.Few.{few-length, few-more, few-of, widen, between}
+use Rattle.code.proofs.Reach.{fits, closed, reached-few}
+use Rattle.code.proofs.Closed.{fits-two}
 use Rattle.code.proofs.Unique.{alike}
-use Rattle.marks.specs.Marks.{chips-of, chips, Marked, Lawful as LawfulMarks}
+use Rattle.marks.specs.Marks.{CardInRange}
 use Rattle.marks.specs.declared.CardMark.{CardMark}
 use Rattle.marks.specs.declared.CardMark.the-variants.{None, Card}
-use Rattle.marks.specs.declared.Marks.{Marks}
-use Rattle.reading.specs.Allowed.{marks-counted, ChipKind, CardKind, AllowedUnder}
-use Rattle.reading.specs.Reading.{S}
-use Rattle.reading.proofs.Marked.{few-chips}
-use Rattle.reading.proofs.Searches.{covered, one-under-card}
+use Rattle.reading.specs.Allowed.{further, further-beside, ChipKind, CardKind, BesideKind, Allowed, OfChipKind}
+use Rattle.reading.specs.Reading.{S, Reads}
+use Rattle.reading.proofs.Marked.{append-in}
+use Rattle.reading.proofs.Searches.{covered, covers}
 
--- the marked chips and a further one
-cover : (n a s f : ℕ) → Few (chips-of n a s) → f < 45
-    → (ps : List ℕ) × Few ps × ((p : ℕ) → In p (chips-of n a s) → In p ps) × ((p : ℕ) → n < 2 → p ≡ f → In p ps)
-cover zero a s f few hf = (f ∷ [], hf, (λ p i. absurd i), λ p l e. inl e)
-cover (suc zero) a s f few hf = let w = pair a f few hf in (w .0, w .1, (λ p i. w .2 p (one p i)), λ p l e. w .2 p (inr e))
+-- the marked chips and the further ones are two at most; so are those of two changes beside a card
+with-further : (u : ℕ) → u ≤ 2 → u + further u ≤ 2
+with-further zero h = omega arith
+with-further (suc zero) h = omega arith
+with-further (suc (suc u)) h = omega arith
+
+with-both : (u : ℕ) → u ≤ 2 → u + (further-beside u + further-beside u) ≤ 2
+with-both zero h = omega arith
+with-both (suc u) h = omega arith
+
+-- ---- what two cards reach alike
+pub apart : (ps b x : List ℕ) (i j : ℕ) → i ≢ j → CardKind i ps b x → CardKind j ps b x → ChipKind ps b x
+apart ps b x i j ne g h = ([], omega arith, λ p l. go p (g p l) (h p l))
   where
-    one : (p : ℕ) → In p (a ∷ []) → (p ≡ a) ⊎ (p ≡ f)
-    one p (inl e) = inl e
-    one p (inr z) = absurd z
-cover (suc (suc n)) a s f few hf = (a ∷ s ∷ [], few, (λ p i. i), λ p l e. absurd (let z : ⊥ = omega arith in z))
+    go : (p : ℕ) → (byte b p ≡ byte x p) ⊎ ((p / 9 ≡ i) ⊎ In p ps) → (byte b p ≡ byte x p) ⊎ ((p / 9 ≡ j) ⊎ In p ps)
+        → (byte b p ≡ byte x p) ⊎ (In p ps ⊎ ⊥)
+    go p (inl e) o = inl e
+    go p (inr (inr m)) o = inr (inl m)
+    go p (inr (inl e)) (inl d) = inl d
+    go p (inr (inl e)) (inr (inr m)) = inr (inl m)
+    go p (inr (inl e)) (inr (inl d)) = absurd (ne (sym e ∙ d))
 
-fits-two : (ls b : List ℕ) (j p q : ℕ) → p / 9 ≢ j → q / 9 ≢ j → T (fits ls j (keep j (p ∷ q ∷ [])) b)
-unfolding keep fits
-fits-two ls b j p q np nq = rw (ne-eqb (p / 9) j np, ne-eqb (q / 9) j nq) tt
+-- ---- no byte changed
+pub unchanged : (c : CardMark) (ps b : List ℕ) → OfChipKind c ps b b
+unchanged None ps b = ([], omega arith, λ p l. inl refl)
+unchanged (Card j) ps b = (([], omega arith, λ p l. inl refl), λ d. d .3 refl)
 
-module _ (ls : List ℕ) (ok : LabelSet ls) (k : Marks) (lk : LawfulMarks k) (b : List ℕ) where
-  -- a lawful block reached by a chip-kind change, and one reached by any change that is allowed while no card is marked, are one
-  pub chip-only : (x y : List ℕ) → Block x → Lawful ls x → Block y → Lawful ls y → ChipKind k b x → AllowedUnder None k b y → x ≡ y
-  chip-only x y bx lx by ly c a =
-      let w = cover (k .count) (k .first) (k .second) (c .0) (few-chips k lk) (c .1) in
-      let v = covered None k b y a in
-      alike ls ok (v .0) (v .1) (w .0) (w .1) x y bx lx by ly
-      (widen (λ p. (Marked k p ⊎ ((marks-counted k < 2) × (p ≡ c .0))) ⊎ ((p / 9 ≡ v .0) ⊎ In p (chips k))) (λ p. (p / 9 ≡ v .0) ⊎ In p (w .0)) x y
-      (λ p l z. go (v .0) p z)
-      (between (λ p. Marked k p ⊎ ((marks-counted k < 2) × (p ≡ c .0))) (λ p. (p / 9 ≡ v .0) ⊎ In p (chips k)) b x y (c .2) (v .2)))
+chip-allowed : (c : CardMark) (ps b x : List ℕ) → OfChipKind c ps b x → Allowed c ps b x
+chip-allowed None ps b x h = inl h
+chip-allowed (Card j) ps b x h = h .0
+
+fits-off : (ls b : List ℕ) (j p q : ℕ) → p / 9 ≢ j → q / 9 ≢ j → T (fits ls j (keep j (p ∷ q ∷ [])) b)
+unfolding keep
+fits-off ls b j p q np nq = rw (ne-eqb (p / 9) j np, ne-eqb (q / 9) j nq) (subst T (sym (fits-two ls j p q [] b)) tt)
+
+-- a card that has neither of two chips
+spare : (p q : ℕ) → (j : ℕ) × (j < 5) × (p / 9 ≢ j) × (q / 9 ≢ j)
+spare p q = go (same (p / 9) 0) (same (q / 9) 0) (same (p / 9) 1) (same (q / 9) 1)
+  where
+    go : (p / 9 ≡ 0) ⊎ (p / 9 ≢ 0) → (q / 9 ≡ 0) ⊎ (q / 9 ≢ 0) → (p / 9 ≡ 1) ⊎ (p / 9 ≢ 1) → (q / 9 ≡ 1) ⊎ (q / 9 ≢ 1)
+        → (j : ℕ) × (j < 5) × (p / 9 ≢ j) × (q / 9 ≢ j)
+    go (inr a) (inr c) u v = (0, omega arith, a, c)
+    go (inl a) (inr c) u (inr v) = (1, omega arith, (λ z. omega arith), v)
+    go (inl a) (inr c) u (inl v) = (2, omega arith, (λ z. omega arith), (λ z. omega arith))
+    go (inr a) (inl c) (inr u) v = (1, omega arith, u, (λ z. omega arith))
+    go (inr a) (inl c) (inl u) v = (2, omega arith, (λ z. omega arith), (λ z. omega arith))
+    go (inl a) (inl c) u v = (1, omega arith, (λ z. omega arith), (λ z. omega arith))
+
+module _ (ls : List ℕ) (ok : LabelSet ls) (ps : List ℕ) (few : Few rules ps) (b : List ℕ) where
+  -- a member by chips, and any other one
+  chip-only : (x y : List ℕ) → Block x → Lawful ls x → ChipKind ps b x → S ls None ps b y → x ≡ y
+  chip-only x y bx lx (fs, n, h) s =
+      let w = few-of (ps ++ fs) in
+      let qs = few-more (length (ps ++ fs)) rules (w .0) (omega (arith, length-append ps fs, n, with-further (length ps) (few-length rules ps few))) (w .1) in
+      let v = covered ls ps b y s in
+      alike ls ok (v .0) (v .1) (w .0) qs x y bx lx (s .block) (s .lawful)
+      (widen (λ p. (In p ps ⊎ In p fs) ⊎ ((p / 9 ≡ v .0) ⊎ In p ps)) (λ p. (p / 9 ≡ v .0) ⊎ In p (w .0)) x y (each (v .0) (w .0) (w .2))
+      (between (λ p. In p ps ⊎ In p fs) (λ p. (p / 9 ≡ v .0) ⊎ In p ps) b x y h (v .2 .only)))
     where
-      go : (i p : ℕ) → (Marked k p ⊎ ((marks-counted k < 2) × (p ≡ c .0))) ⊎ ((p / 9 ≡ i) ⊎ In p (chips k))
-          → (p / 9 ≡ i) ⊎ In p (cover (k .count) (k .first) (k .second) (c .0) (few-chips k lk) (c .1) .0)
-      go i p (inl (inl m)) = inr (cover (k .count) (k .first) (k .second) (c .0) (few-chips k lk) (c .1) .2 p m)
-      go i p (inl (inr e)) = inr (cover (k .count) (k .first) (k .second) (c .0) (few-chips k lk) (c .1) .3 p (e .0) (e .1))
-      go i p (inr (inl e)) = inl e
-      go i p (inr (inr m)) = inr (cover (k .count) (k .first) (k .second) (c .0) (few-chips k lk) (c .1) .2 p m)
+      each : (j : ℕ) (qs : List ℕ) → ((p : ℕ) → p < 45 → In p (ps ++ fs) → In p qs) → (p : ℕ) → p < 45
+          → (In p ps ⊎ In p fs) ⊎ ((p / 9 ≡ j) ⊎ In p ps) → (p / 9 ≡ j) ⊎ In p qs
+      each j qs c p l (inl i) = inr (c p l (append-in p ps fs i))
+      each j qs c p l (inr (inl e)) = inl e
+      each j qs c p l (inr (inr i)) = inr (c p l (append-in p ps fs (inl i)))
 
-  -- so such a change is never refused as several
-  pub chip-one : k .card ≡ None → (x : List ℕ) → S ls k b x → ChipKind k b x → OneMember (S ls k b) x
-  chip-one e x s c =
-      (s, λ y t. sym (chip-only x y (s .block) (s .lawful) (t .block) (t .lawful) c (subst (λ (m : CardMark). AllowedUnder m k b y) e (t .allowed))))
-
-  -- what two cards reach alike lies in marked chips only
-  pub apart : (i j : ℕ) → i ≢ j → (x : List ℕ) → CardKind i k b x → CardKind j k b x → ChipKind k b x
-  apart i j ne x g h = (0, omega arith, λ p l. go p (g p l) (h p l))
+  pub card-one : (m : ℕ) → m < 5 → (x y : List ℕ) → S ls (Card m) ps b x → S ls (Card m) ps b y → x ≡ y
+  card-one m hm x y s t = go (s .allowed) (t .allowed)
     where
-      go : (p : ℕ) → (byte b p ≡ byte x p) ⊎ ((p / 9 ≡ i) ⊎ Marked k p) → (byte b p ≡ byte x p) ⊎ ((p / 9 ≡ j) ⊎ Marked k p) → (byte b p ≡ byte x p) ⊎ (Marked k p ⊎ ((marks-counted k < 2) × (p ≡ 0)))
-      go p (inl e) o = inl e
-      go p (inr (inr m)) o = inr (inl m)
-      go p (inr (inl e)) (inl d) = inl d
-      go p (inr (inl e)) (inr (inr m)) = inr (inl m)
-      go p (inr (inl e)) (inr (inl d)) = absurd (ne (sym e ∙ d))
-
-  -- with two chip marks and no card mark "none" never occurs
-  pub never-none : Block b → k .card ≡ None → k .count ≡ 2 → (x : List ℕ) × S ls k b x
-  never-none bb ec e = at (spare (k .first) (k .second))
-    where
-      -- a card that has neither
-      spare : (p q : ℕ) → (j : ℕ) × (j < 5) × (p / 9 ≢ j) × (q / 9 ≢ j)
-      spare p q = first (same (p / 9) 0) (same (q / 9) 0) (same (p / 9) 1) (same (q / 9) 1)
+      go : BesideKind m ps b x → BesideKind m ps b y → x ≡ y
+      go (fs, n, h) (gs, k, g) =
+          let most = with-both (length ps) (few-length rules ps few) in
+          let w = few-of (ps ++ (fs ++ gs)) in
+          let qs = few-more (length (ps ++ (fs ++ gs))) rules (w .0) (omega (arith, length-append ps (fs ++ gs), length-append fs gs, n, k, most)) (w .1) in
+          alike ls ok m hm (w .0) qs x y (s .block) (s .lawful) (t .block) (t .lawful)
+          (widen (λ p. ((p / 9 ≡ m) ⊎ (In p ps ⊎ In p fs)) ⊎ ((p / 9 ≡ m) ⊎ (In p ps ⊎ In p gs))) (λ p. (p / 9 ≡ m) ⊎ In p (w .0)) x y
+          (each (w .0) (w .2))
+          (between (λ p. (p / 9 ≡ m) ⊎ (In p ps ⊎ In p fs)) (λ p. (p / 9 ≡ m) ⊎ (In p ps ⊎ In p gs)) b x y h g))
         where
-          first : (p / 9 ≡ 0) ⊎ (p / 9 ≢ 0) → (q / 9 ≡ 0) ⊎ (q / 9 ≢ 0) → (p / 9 ≡ 1) ⊎ (p / 9 ≢ 1) → (q / 9 ≡ 1) ⊎ (q / 9 ≢ 1) → (j : ℕ) × (j < 5) × (p / 9 ≢ j) × (q / 9 ≢ j)
-          first (inr a) (inr c) u v = (0, omega arith, a, c)
-          first (inl a) (inr c) u (inr v) = (1, omega arith, (λ z. let t : ⊥ = omega arith in t), v)
-          first (inl a) (inr c) u (inl v) = (2, omega arith, (λ z. let t : ⊥ = omega arith in t), (λ z. let t : ⊥ = omega arith in t))
-          first (inr a) (inl c) (inr u) v = (1, omega arith, u, (λ z. let t : ⊥ = omega arith in t))
-          first (inr a) (inl c) (inl u) v = (2, omega arith, (λ z. let t : ⊥ = omega arith in t), (λ z. let t : ⊥ = omega arith in t))
-          first (inl a) (inl c) u v = (1, omega arith, (λ z. let t : ⊥ = omega arith in t), (λ z. let t : ⊥ = omega arith in t))
+          each : (qs : List ℕ) → ((p : ℕ) → p < 45 → In p (ps ++ (fs ++ gs)) → In p qs) → (p : ℕ) → p < 45
+              → ((p / 9 ≡ m) ⊎ (In p ps ⊎ In p fs)) ⊎ ((p / 9 ≡ m) ⊎ (In p ps ⊎ In p gs)) → (p / 9 ≡ m) ⊎ In p qs
+          each qs c p l (inl (inl e)) = inl e
+          each qs c p l (inl (inr (inl i))) = inr (c p l (append-in p ps (fs ++ gs) (inl i)))
+          each qs c p l (inl (inr (inr i))) = inr (c p l (append-in p ps (fs ++ gs) (inr (append-in p fs gs (inl i)))))
+          each qs c p l (inr (inl e)) = inl e
+          each qs c p l (inr (inr (inl i))) = inr (c p l (append-in p ps (fs ++ gs) (inl i)))
+          each qs c p l (inr (inr (inr i))) = inr (c p l (append-in p ps (fs ++ gs) (inr (append-in p fs gs (inr i)))))
 
-      at : (j : ℕ) × (j < 5) × (k .first / 9 ≢ j) × (k .second / 9 ≢ j) → (x : List ℕ) × S ls k b x
-      at w =
-          let m : chips k ≡ k .first ∷ k .second ∷ [] = ap (λ (n : ℕ). chips-of n (k .first) (k .second)) e in
-          let h = reached-few ls ok (w .0) (w .1) b bb (chips k) (few-chips k lk)
-          (subst (λ (l : List ℕ). T (fits ls (w .0) (keep (w .0) l) b)) (sym m) (fits-two ls b (w .0) (k .first) (k .second) (w .2) (w .3))) in (
-            closed ls (w .0) (keep (w .0) (chips k)) b,
-            record {
-              block = h .block;
-              lawful = h .lawful;
-              allowed = subst (λ (c : CardMark). AllowedUnder c k b (closed ls (w .0) (keep (w .0) (chips k)) b)) (sym ec)
-                  (inr (w .0, w .1, h .only));
-            },
+  pub chip-one : (c : CardMark) → CardInRange c → (x : List ℕ) → S ls c ps b x → OfChipKind c ps b x → OneMember (S ls c ps b) x
+  chip-one None r x s h = (s, λ y t. sym (chip-only x y (s .block) (s .lawful) h t))
+  chip-one (Card m) r x s h = (s, λ y t. card-one m r y x t s)
+
+  pub never-none : length ps ≡ 2 → Block b → (x : List ℕ) × S ls None ps b x
+  never-none e bb = go ps few e
+    where
+      go : (ps : List ℕ) → Few rules ps → length ps ≡ 2 → (x : List ℕ) × S ls None ps b x
+      go [] f e = absurd (omega arith)
+      go (p ∷ []) f e = absurd (omega arith)
+      go (p ∷ q ∷ []) f e =
+          let w = spare p q in (
+            closed ls (w .0) (keep (w .0) (p ∷ q ∷ [])) b,
+            covers ls (p ∷ q ∷ []) b (closed ls (w .0) (keep (w .0) (p ∷ q ∷ [])) b) (w .0) (w .1)
+                (reached-few ls ok (w .0) (w .1) b bb (p ∷ q ∷ []) f (fits-off ls b (w .0) p q (w .2) (w .3))),
           )
+      go (p ∷ q ∷ r ∷ ps) f e = absurd (f .2 .2)
 
-  -- under a card mark
-  pub card-one : (m : ℕ) → m < 5 → k .card ≡ Card m → (x y : List ℕ) → S ls k b x → S ls k b y → x ≡ y
-  card-one m hm e x y s t =
-      one-under-card ls ok m hm k lk b x y (s .block) (s .lawful) (t .block) (t .lawful)
-      (subst (λ (c : CardMark). AllowedUnder c k b x) e (s .allowed)) (subst (λ (c : CardMark). AllowedUnder c k b y) e (t .allowed))
+  -- ---- clean
+  pub clean-only : (c : CardMark) → CardInRange c → Block b → Lawful ls b → OneMember (S ls c ps b) b
+  clean-only c r bb lb =
+      chip-one c r b (record { block = bb; lawful = lb; allowed = chip-allowed c ps b b (unchanged c ps b) }) (unchanged c ps b)
+
+  pub clean-reads : (c : CardMark) → CardInRange c → Block b → Lawful ls b → (out : List ℕ) → Reads ls c ps b out clean b
+  clean-reads c r bb lb out = (clean-only c r bb lb, refl)
+
+pub clean-lawful : (ls : List ℕ) (c : CardMark) (ps b out out′ : List ℕ) → Reads ls c ps b out clean out′ → Lawful ls b
+clean-lawful ls c ps b out out′ h = subst (Lawful ls) (h .1) (h .0 .0 .lawful)

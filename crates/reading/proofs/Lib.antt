@@ -1,3 +1,5 @@
 pub mod Marked
 pub mod Searches
 pub mod Facts
+pub mod Agree
+pub mod Exists

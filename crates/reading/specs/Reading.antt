@@ -1,65 +1,59 @@
 -- The set S, and what a reading says. Demand 3, first sentence; document 01, "What a reading says".
 --
---   S labels k b        the lawful blocks that differ from b only as the marks k allow
---   KindOf k b x kind   the kind of the change from b to x
+--   S labels c ps b     the lawful blocks that differ from b only as the marks allow
 --   Reaches             a card-kind change of card j reaches a lawful block
---   number              01's number for each answer
---   Reads               what a reading of b must say, and the 45 bytes of the output after it
+--   OnCard              the card that a corrected block is told by
+--   reading-answer      the answer that a Reading stands for
+--   Reads               what a reading of b says, out being what was lent for output and out′ what it holds then
+--   ReadsUnder          the same under a mark record, with the built-in labels
 use mathlib.Core.Path.{_≡_}
 use mathlib.Core.Logic.{_≢_}
 use mathlib.Core.List.{List}
 use Prim.Native.Nat.{ℕ, _<_}
+use Rattle.answer.specs.Answer.{Answer, done, clean, in-chips, in-card, counted, refused, refused-card}
 use Rattle.code.specs.Block.{Block, Lawful, changes, OneMember, NoMember, TwoMembers}
+use Rattle.code.specs.Labels.{built-in}
+use Rattle.marks.specs.Marks.{marked-chips}
 use Rattle.marks.specs.declared.CardMark.{CardMark}
 use Rattle.marks.specs.declared.CardMark.the-variants.{None, Card}
 use Rattle.marks.specs.declared.Marks.{Marks}
-use Rattle.reading.specs.Allowed.{ChipKind, CardKind, CardChanged, Allowed}
-use Rattle.reading.specs.declared.Kind.{Kind}
+use Rattle.reading.specs.Allowed.{CardKind, Allowed, OfChipKind}
 use Rattle.reading.specs.declared.Kind.the-variants.{Clean, Chips, OneCard}
 use Rattle.reading.specs.declared.Reading.{Reading}
-use Rattle.reading.specs.declared.Reading.the-variants.{Corrected, Nothing, Several, Refused}
+use Rattle.reading.specs.declared.Reading.the-variants.{Corrected, Several, Refused}
 
-pub record S (labels : List ℕ) (k : Marks) (b x : List ℕ) : Type 0 where
+pub record S (labels : List ℕ) (c : CardMark) (ps b x : List ℕ) : Type 0 where
   pub block : Block x
   pub lawful : Lawful labels x
-  pub allowed : Allowed k b x
+  pub allowed : Allowed c ps b x
 
--- ---- the kind of a change
--- "With card j marked it is card j whenever a byte of card j changes, else chips"
-abbrev pub ChipsUnder : CardMark → Marks → List ℕ → List ℕ → Type 0
-ChipsUnder None k b x = ChipKind k b x
-ChipsUnder (Card m) k b x = CardChanged m b x → ⊥
+-- "one card whose card-kind change reaches a lawful block"
+abbrev pub Reaches : List ℕ → List ℕ → List ℕ → ℕ → Type 0
+Reaches labels ps b j = (j < 5) × ((y : List ℕ) × Block y × Lawful labels y × CardKind j ps b y)
 
--- with no card marked "the card that holds all the unmarked changed bytes", where the change is not of the chip kind
-abbrev pub CardUnder : CardMark → ℕ → Marks → List ℕ → List ℕ → Type 0
-CardUnder None j k b x = (ChipKind k b x → ⊥) × (j < 5) × CardKind j k b x
-CardUnder (Card m) j k b x = (j ≡ m) × CardChanged m b x
+-- "the card that holds all the unmarked changed bytes"; "With card j marked it is card j"
+abbrev pub OnCard : CardMark → ℕ → List ℕ → List ℕ → List ℕ → Type 0
+OnCard None j ps b x = (j < 5) × CardKind j ps b x
+OnCard (Card m) j ps b x = j ≡ m
 
-abbrev pub KindOf : Marks → List ℕ → List ℕ → Kind → Type 0
-KindOf k b x Clean = x ≡ b
-KindOf k b x (Chips n) = (x ≢ b) × (n ≡ changes b x) × ChipsUnder (k .card) k b x
-KindOf k b x (OneCard j n) = (x ≢ b) × (n ≡ changes b x) × CardUnder (k .card) j k b x
+-- the numbers and values of the code's answer; "none" is 10, and "several" 11 with a card
+abbrev pub reading-answer : Reading → Answer
+reading-answer (Corrected Clean) = clean
+reading-answer (Corrected (Chips n)) = in-chips n
+reading-answer (Corrected (OneCard j n)) = in-card j n
+reading-answer (Several j) = refused-card 11 j
+reading-answer (Refused n) = refused n
 
--- ---- the answer
-abbrev pub Reaches : List ℕ → Marks → List ℕ → ℕ → Type 0
-Reaches labels k b j = (j < 5) × ((y : List ℕ) × Block y × Lawful labels y × CardKind j k b y)
+-- corrected: the output is the one member of S, told by its kind, n being the number of bytes changed;
+-- 10: S is empty; 11: it has two members or more; and the output is as before
+abbrev pub Reads : List ℕ → CardMark → List ℕ → List ℕ → List ℕ → Answer → List ℕ → Type 0
+Reads labels c ps b out clean out′ = OneMember (S labels c ps b) out′ × (out′ ≡ b)
+Reads labels c ps b out (in-chips n) out′ = OneMember (S labels c ps b) out′ × (out′ ≢ b) × (n ≡ changes b out′) × OfChipKind c ps b out′
+Reads labels c ps b out (in-card j n) out′ = OneMember (S labels c ps b) out′ × (n ≡ changes b out′) × (OfChipKind c ps b out′ → ⊥) × OnCard c j ps b out′
+Reads labels c ps b out (refused n) out′ = (n ≡ 10) × NoMember (S labels c ps b) × (out′ ≡ out)
+Reads labels c ps b out (refused-card n j) out′ = (n ≡ 11) × TwoMembers (S labels c ps b) × Reaches labels ps b j × (out′ ≡ out)
+Reads labels c ps b out done out′ = ⊥
+Reads labels c ps b out (counted v w x y z) out′ = ⊥
 
-abbrev pub number : Reading → ℕ
-number (Corrected kind) = 0
-number Nothing = 10
-number (Several j) = 11
-number (Refused n) = n
-
--- what a reading of b under k says, x being the corrected block where there is one
-abbrev pub Reads : List ℕ → Marks → List ℕ → Reading → List ℕ → Type 0
-Reads labels k b (Corrected kind) x = OneMember (S labels k b) x × KindOf k b x kind
-Reads labels k b Nothing x = NoMember (S labels k b)
-Reads labels k b (Several j) x = TwoMembers (S labels k b) × Reaches labels k b j
-Reads labels k b (Refused n) x = ⊥
-
--- what a corrected block is written to; any other answer leaves it as it was
-abbrev pub if-corrected : Reading → List ℕ → List ℕ → List ℕ
-if-corrected (Corrected kind) new old = new
-if-corrected Nothing new old = old
-if-corrected (Several j) new old = old
-if-corrected (Refused n) new old = old
+abbrev pub ReadsUnder : Marks → List ℕ → List ℕ → Answer → List ℕ → Type 0
+ReadsUnder m b out a out′ = Reads built-in (m .card) (marked-chips m) b out a out′

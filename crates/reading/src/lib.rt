@@ -1,6 +1,4 @@
-// What a reading of a block says. Its definitions are in specs/, and what follows of them in proofs/.
-ghost use mathlib.Core.Path.{_≡_};
-ghost use Rattle.reading.specs.Reading.{number};
+// What a reading of a block says. Its definitions are in specs/, and what follows of them in proofs/; no code.
 
 // How a block was corrected, n being the number of bytes changed.
 pub enum Kind {
@@ -13,22 +11,8 @@ pub enum Kind {
 
 pub enum Reading {
     Corrected(Kind),
-    // No lawful block differs from the one read as the marks allow: 10.
-    Nothing,
-    // More than one does: 11. The card is one whose change reaches a lawful block.
+    // 11: more than one lawful block differs from the one read as the marks allow. The card is one whose change reaches a lawful block.
     Several(u8),
-    // The number of the cause.
+    // The number of the cause; 10: no lawful block does.
     Refused(u8),
-}
-
-// Document 01's number, 0 for a corrected block.
-pub fn number_of(r: Reading) -> u8
-    ensures { λ n. ⌜ n ≡ number r ⌝ }
-{
-    match r {
-        Reading::Corrected(_) => 0,
-        Reading::Nothing => 10,
-        Reading::Several(_) => 11,
-        Reading::Refused(n) => n,
-    }
 }

@@ -1,1 +1,5 @@
+pub mod Written
+pub mod Pairs
+pub mod Factors
 pub mod Storing
+pub mod Tied

@@ -1,102 +1,159 @@
--- The block that a record is stored as: it is there, and it is the only one.
+-- The block that a record is stored as: it is there, and it is the only one. For any labels, and their factors.
+--
+--   is-stored             the block that the code ends with
+--   refused-2, refused-3, stored   what the contract says, by its cause
 use mathlib.Core.Logic.{_≢_, _⊎_, inl, inr}
-use mathlib.Core.Path.{_≡_, refl, sym, ap, _∙_, subst}
+use mathlib.Core.Path.{_≡_, refl, sym, ap, ap₂, _∙_, subst}
 use mathlib.Core.Bool.{Bool, true, false, not}
-use mathlib.Core.List.{List, [], _∷_, _++_}
-use Prim.Native.Nat.{ℕ, zero, suc, _+_, _-_, _/_, _<_, _≤_}
+use mathlib.Core.List.{List, [], _∷_}
+use Prim.Native.Nat.{ℕ, _+_, _/_, _<_, _≤_, _^_}
 use native.Mathlib.Decide.{decLt}
 use native.Mathlib.Omega.{arith}
 use lib.Dec.{eqb}
-use lib.ListN.{length, take, drop, List·getD-append}
-use lib.Seq.{take-length, length-take-le, ext-getD, getD-take}
+use lib.ListN.{length, take}
+use lib.Seq.{length-take-le, ext-getD, getD-take}
 use borrow.Author.Tests.{eq-eqb, ne-eqb}
-use Rattle.field.proofs.Tests.{same}
-use Rattle.refusal.specs.Refusal.{cause, lowest, outcome}
-use Rattle.refusal.specs.declared.Outcome.the-variants.{Done, Refused}
-use Rattle.code.specs.Block.{byte, Block, Lawful, DifferOnly, OneMember, Stored}
-use Rattle.code.specs.Labels.{built-in}
-use Rattle.code.specs.Reach.{In, Off, Reached}
-use Rattle.code.proofs.BuiltIn.{built-in-set}
-use Rattle.code.proofs.Reach.{fits, reached, closed}
+use Rattle.base.specs.Base.{In, if}
+use Rattle.base.proofs.Tests.{same}
+use Rattle.answer.specs.Answer.{done, refused}
+use Rattle.answer.specs.Cause.{cause}
+use Rattle.answer.proofs.Causes.{first-holds, by-refused, by-done}
+use Rattle.field.specs.Field.{_⊕_, _·_, sum}
+use Rattle.field.proofs.Xor.{add-self, add-lt, add-assoc, add-zero}
+use Rattle.field.proofs.Gf256.{field}
+use Rattle.field.proofs.Linear.{if-below}
+use Rattle.field.proofs.Sum.{sum-ext, sum-below}
+use Rattle.field.proofs.Squares.{square-add}
+use Rattle.code.specs.Block.{byte, position, Block, Lawful, OneMember, Stored}
+use Rattle.code.specs.Labels.{built-in, LabelSet}
+use Rattle.code.proofs.Few.{few-two}
 use Rattle.code.proofs.Unique.{alike}
-use Rattle.solve.specs.declared.LabelSums.{LabelSums}
-use Rattle.solve.specs.Solve.{KnownAt, Solved, applied}
-use Rattle.solve.specs.declared.Candidate.{Candidate}
-use Rattle.solve.specs.declared.Change.{Change}
-use Rattle.store.specs.Store.{store-cause, StoredBy, StoreDone}
+use Rattle.store.specs.Steps.{chip-sum, Begun, in-row}
+use Rattle.store.specs.Store.{store-cause, StoreDone}
+use Rattle.store.proofs.Written.{in-row-at, in-row-length}
+use Rattle.store.proofs.Pairs.{row-kept, sum-moved}
+use Rattle.store.proofs.Factors.{Factors, solved-once, solved-squared}
 
-module _ (r l : List ℕ) (lr : length r ≡ 34) (front : (p : ℕ) → p < 34 → byte l p ≡ byte r p) where
-  begins : (x : List ℕ) → length x ≡ 45 → ((p : ℕ) → p < 34 → byte x p ≡ byte r p) → take 34 x ≡ r
-  begins x lx h =
-      let n : length (take 34 x) ≡ 34 = length-take-le 34 x (omega arith) in
-      ext-getD 0 (take 34 x) r (n ∙ sym lr)
-      (λ i g. let q : i < 34 = subst (λ (m : ℕ). i < m) n g in getD-take 34 x i 0 q ∙ h i q)
+-- a square of a sum
+square : (a b : ℕ) → (a · a) ⊕ (b · b) ≡ (a ⊕ b) · (a ⊕ b)
+square a b = sym (square-add 8 _·_ field a b)
 
-  -- a block that is reached by the check bytes is the one
-  pub stored : (x : List ℕ) → Reached built-in 4 (34 ∷ 35 ∷ []) l x → OneMember (Stored built-in r) x
-  stored x h = (
-    record { block = h .block; lawful = h .lawful; begins = begins x (h .block .long) (λ p g. same-at p g (h .only p (omega arith))) },
-    λ y s. alike built-in built-in-set 4 (omega arith) (34 ∷ 35 ∷ []) (omega arith, omega arith, (λ z. omega arith)) y x (s .block) (s .lawful) (h .block) (h .lawful)
-        (λ p g. differ y s p (decLt p 34) g),
-  )
+-- ---- the 45 bytes written first meet the rows
+rows-met : (rec b : List ℕ) → Begun rec b → (i : ℕ) → i < 9 → sum 5 (λ k. byte b (position k i)) ≡ 0
+unfolding chip-sum sum
+rows-met rec b w i h =
+    ap₂ (λ (x y : ℕ). x ⊕ y) (w .card i h)
+    (sum-ext 4 (λ k. byte b (position k i)) (λ k. byte rec (position k i)) (λ k l. w .front (position k i) (omega arith)))
+    ∙ add-self (sum 4 (λ k. byte rec (position k i)))
+
+module _ (labels : List ℕ) (set : LabelSet labels) (f g h k : ℕ) (F : Factors labels f g h k)
+    (rec b b₁ b₂ : List ℕ) (lr : length rec ≡ 34) (below : (p : ℕ) → byte b p < 2 ^ 8) (w : Begun rec b)
+    (s t x y : ℕ) (s-is : s ≡ sum 45 (λ p. byte labels p · byte b p)) (t-is : t ≡ sum 45 (λ p. (byte labels p · byte labels p) · byte b p))
+    (x-is : x ≡ (s · f) ⊕ (t · g)) (y-is : y ≡ (s · h) ⊕ (t · k)) (e₁ : b₁ ≡ in-row b 34 x) (e₂ : b₂ ≡ in-row b₁ 35 y) where
+  long₁ : length b₁ ≡ 45
+  long₁ = ap length e₁ ∙ in-row-length b 34 x ∙ w .long
+
+  at₁ : (q : ℕ) → byte b₁ q ≡ byte b q ⊕ if (eqb q 34) x 0 ⊕ if (eqb q 43) x 0
+  at₁ q = ap (λ (l : List ℕ). byte l q) e₁ ∙ in-row-at b 34 x (omega (arith, w .long)) q
+
+  at₂ : (q : ℕ) → byte b₂ q ≡ byte b₁ q ⊕ if (eqb q 35) y 0 ⊕ if (eqb q 44) y 0
+  at₂ q = ap (λ (l : List ℕ). byte l q) e₂ ∙ in-row-at b₁ 35 y (omega (arith, long₁)) q
+
+  -- a sum of anything times byte
+  moved : (c : ℕ → ℕ) → sum 45 (λ q. c q · byte b₂ q) ≡ sum 45 (λ q. c q · byte b q) ⊕ (((c 34 ⊕ c 43) · x) ⊕ ((c 35 ⊕ c 44) · y))
+  moved c =
+      sum-moved 8 y (omega arith) (byte b₁) (byte b₂) at₂ c
+      ∙ ap (λ (z : ℕ). z ⊕ ((c 35 ⊕ c 44) · y)) (sum-moved 7 x (omega arith) (byte b) (byte b₁) at₁ c)
+      ∙ add-assoc (sum 45 (λ q. c q · byte b q)) ((c 34 ⊕ c 43) · x) ((c 35 ⊕ c 44) · y)
+
+  s-below : s < 2 ^ 8
+  s-below = subst (λ (z : ℕ). z < 2 ^ 8) (sym s-is) (sum-below 8 45 (λ p. byte labels p · byte b p) (λ p. field .below (byte labels p) (byte b p)))
+
+  t-below : t < 2 ^ 8
+  t-below =
+      subst (λ (z : ℕ). z < 2 ^ 8) (sym t-is)
+      (sum-below 8 45 (λ p. (byte labels p · byte labels p) · byte b p) (λ p. field .below (byte labels p · byte labels p) (byte b p)))
+
+  lawful : Lawful labels b₂
+  lawful = record {
+    chips = λ i l. row-kept 8 y (omega arith) (byte b₁) (byte b₂) at₂ i l ∙ row-kept 7 x (omega arith) (byte b) (byte b₁) at₁ i l ∙ rows-met rec b w i l;
+    once = moved (byte labels) ∙ ap₂ (λ (p q : ℕ). p ⊕ q) (sym s-is) (solved-once labels f g h k F s t x y s-below t-below x-is y-is) ∙ add-self s;
+    squared = moved (λ q. byte labels q · byte labels q)
+        ∙ ap₂ (λ (p q : ℕ). p ⊕ q) (sym t-is)
+        (ap₂ (λ (p q : ℕ). (p · x) ⊕ (q · y)) (square (byte labels 34) (byte labels 43)) (square (byte labels 35) (byte labels 44))
+        ∙ solved-squared labels f g h k F s t x y s-below t-below x-is y-is)
+        ∙ add-self t;
+  }
+
+  block : Block b₂
+  block = record { long = ap length e₂ ∙ in-row-length b₁ 35 y ∙ long₁; bytes = λ p l. bytes p }
     where
-      same-at : (p : ℕ) → p < 34 → (byte l p ≡ byte x p) ⊎ ((p / 9 ≡ 4) ⊎ In p (34 ∷ 35 ∷ [])) → byte x p ≡ byte r p
-      same-at p g (inl e) = sym e ∙ front p g
-      same-at p g (inr (inl e)) = absurd (omega arith)
-      same-at p g (inr (inr (inl e))) = absurd (omega arith)
-      same-at p g (inr (inr (inr (inl e)))) = absurd (omega arith)
-      same-at p g (inr (inr (inr (inr z)))) = absurd z
+      hx : x < 2 ^ 8
+      hx = subst (λ (z : ℕ). z < 2 ^ 8) (sym x-is) (add-lt 8 (s · f) (t · g) (field .below s f) (field .below t g))
+
+      hy : y < 2 ^ 8
+      hy = subst (λ (z : ℕ). z < 2 ^ 8) (sym y-is) (add-lt 8 (s · h) (t · k) (field .below s h) (field .below t k))
+
+      plus : (a q r e : ℕ) → a < 2 ^ 8 → e < 2 ^ 8 → a ⊕ if (eqb q r) e 0 ⊕ if (eqb q (r + 9)) e 0 < 2 ^ 8
+      plus a q r e ha he =
+          add-lt 8 (a ⊕ if (eqb q r) e 0) (if (eqb q (r + 9)) e 0) (add-lt 8 a (if (eqb q r) e 0) ha (if-below 8 (eqb q r) e 0 he (omega arith)))
+          (if-below 8 (eqb q (r + 9)) e 0 he (omega arith))
+
+      bytes : (q : ℕ) → byte b₂ q < 2 ^ 8
+      bytes q =
+          subst (λ (z : ℕ). z < 2 ^ 8) (sym (at₂ q))
+          (plus (byte b₁ q) q 35 y (subst (λ (z : ℕ). z < 2 ^ 8) (sym (at₁ q)) (plus (byte b q) q 34 x (below q) hx)) hy)
+
+  front : (p : ℕ) → p < 34 → byte b₂ p ≡ byte rec p
+  front p l =
+      at₂ p ∙ ap (λ (z : ℕ). z ⊕ if (eqb p 35) y 0 ⊕ if (eqb p 44) y 0) (at₁ p)
+      ∙ simp (off 34 x (omega arith), off 43 x (omega arith), off 35 y (omega arith), off 44 y (omega arith), add-zero) (w .front p (omega arith))
+    where
+      off : (q e : ℕ) → p < q → if (eqb p q) e 0 ≡ 0
+      off q e h = ap (λ (t : Bool). if t e 0) (ne-eqb p q (λ z. omega arith))
+
+  pub is-stored : OneMember (Stored labels rec) b₂
+  is-stored = (record { block = block; lawful = lawful; begins = begins }, only)
+    where
+      begins : take 34 b₂ ≡ rec
+      begins =
+          let n : length (take 34 b₂) ≡ 34 = length-take-le 34 b₂ (omega (arith, block .long)) in
+          ext-getD 0 (take 34 b₂) rec (n ∙ sym lr) (λ i l. let q : i < 34 = subst (λ (m : ℕ). i < m) n l in getD-take 34 b₂ i 0 q ∙ front i q)
 
       late : (p : ℕ) → 34 ≤ p → p < 45 → (p ≡ 34) ⊎ (p ≢ 34) → (p ≡ 35) ⊎ (p ≢ 35) → (p / 9 ≡ 4) ⊎ In p (34 ∷ 35 ∷ [])
-      late p h g (inl e) o = inr (inl e)
-      late p h g (inr a) (inl e) = inr (inr (inl e))
-      late p h g (inr a) (inr b) = inl (omega arith)
+      late p a l (inl e) o = inr (inl e)
+      late p a l (inr n) (inl e) = inr (inr (inl e))
+      late p a l (inr n) (inr m) = inl (omega arith)
 
-      differ : (y : List ℕ) → Stored built-in r y → (p : ℕ) → Dec (p < 34) → p < 45 → (byte y p ≡ byte x p) ⊎ ((p / 9 ≡ 4) ⊎ In p (34 ∷ 35 ∷ []))
-      differ y s p (yes a) g =
-          inl (sym (getD-take 34 y p 0 a) ∙ ap (λ (z : List ℕ). byte z p) (s .begins) ∙ sym (same-at p a (h .only p g)))
-      differ y s p (no a) g = inr (late p (omega arith) g (same p 34) (same p 35))
+      differ : (z : List ℕ) → Stored labels rec z → (p : ℕ) → p < 45 → Dec (p < 34) → (byte z p ≡ byte b₂ p) ⊎ ((p / 9 ≡ 4) ⊎ In p (34 ∷ 35 ∷ []))
+      differ z st p l (yes a) = inl (sym (getD-take 34 z p 0 a) ∙ ap (λ (v : List ℕ). byte v p) (st .begins) ∙ sym (front p a))
+      differ z st p l (no a) = inr (late p (omega arith) l (same p 34) (same p 35))
 
--- ---- what the search of the check bytes finds
-there : (b : List ℕ) → Block b → Off 4 (34 ∷ 35 ∷ []) → Reached built-in 4 (34 ∷ 35 ∷ []) b (closed built-in 4 (34 ∷ 35 ∷ []) b)
-unfolding fits
-there b bb o = reached built-in built-in-set 4 (omega arith) b bb (34 ∷ 35 ∷ []) o tt
-
-pub found : (b : List ℕ) → Block b → (c : Candidate) → Solved built-in 4 (34 ∷ 35 ∷ []) b c → Reached built-in 4 (34 ∷ 35 ∷ []) b (applied b (c .change))
-found b bb c s = pick (c .fits) refl
-  where
-    off : Off 4 (34 ∷ 35 ∷ [])
-    off = (omega arith, omega arith, (λ z. omega arith), (λ z. omega arith), (λ z. omega arith))
-
-    pick : (t : Bool) → c .fits ≡ t → Reached built-in 4 (34 ∷ 35 ∷ []) b (applied b (c .change))
-    pick true e = s .found e
-    pick false e = absurd (s .none e (closed built-in 4 (34 ∷ 35 ∷ []) b) (there b bb off))
+      -- bytes 34, 35 and card 4 are "one card and two chips"
+      only : (z : List ℕ) → Stored labels rec z → z ≡ b₂
+      only z st =
+          alike labels set 4 (omega arith) (34 ∷ 35 ∷ []) (few-two 34 35 (omega arith) (omega arith) (λ e. omega arith)) z b₂ (st .block) (st .lawful) block lawful
+          (λ p l. differ z st p l (decLt p 34))
 
 -- ---- the contract, by its cause
-pub refused-2 : (rec out : List ℕ) → length out ≢ 45 → StoreDone rec out (Refused 2) out
-unfolding StoreDone store-cause
-refused-2 r out h = rw (ne-eqb (length out) 45 h) (refl, refl)
+pub refused-2 : (rec out : List ℕ) → length out ≢ 45 → StoreDone rec out (refused 2) rec out
+unfolding store-cause
+refused-2 rec out n = record {
+  record-kept = refl;
+  by-cause = by-refused (store-cause rec out) 2 _ _ (rw (ne-eqb (length out) 45 n) (first-holds 2 (cause 3 (not (eqb (length rec) 34)) ∷ []) tt))
+      (λ e. omega arith) refl;
+}
 
-pub refused-3 : (rec out : List ℕ) → length out ≡ 45 → length rec ≢ 34 → StoreDone rec out (Refused 3) out
-unfolding StoreDone store-cause
-refused-3 r out e h = rw (eq-eqb (length out) 45 e, ne-eqb (length r) 34 h) (refl, refl)
+pub refused-3 : (rec out : List ℕ) → length out ≡ 45 → length rec ≢ 34 → StoreDone rec out (refused 3) rec out
+unfolding store-cause
+refused-3 rec out e n = record {
+  record-kept = refl;
+  by-cause = by-refused (store-cause rec out) 3 _ _ (rw (eq-eqb (length out) 45 e, ne-eqb (length rec) 34 n)) (λ z. omega arith) refl;
+}
 
-pub done : (rec out x : List ℕ) → length out ≡ 45 → length rec ≡ 34 → OneMember (Stored built-in rec) x → StoreDone rec out Done x
-unfolding StoreDone store-cause
-done r out x e h one = rw (eq-eqb (length out) 45 e, eq-eqb (length r) 34 h) (refl, one)
-
--- the same, of a table that is the built-in labels
-pub found-by : (ls b z : List ℕ) (t : LabelSums) (c : Candidate) → ls ≡ built-in → KnownAt built-in b z 4 t
-    → ((b : List ℕ) → KnownAt ls b z 4 t → Solved ls 4 (34 ∷ 35 ∷ []) b c) → Reached built-in 4 (34 ∷ 35 ∷ []) b (applied b (c .change))
-found-by ls b z t c e k s =
-    found b (k .block) c (subst (λ (l : List ℕ). KnownAt l b z 4 t → Solved l 4 (34 ∷ 35 ∷ []) b c) e (s b) k)
-
--- the record copied in
-pub copied : (rec out a : List ℕ) → length rec ≡ 34 → a ≡ take (length rec) rec ++ drop (length rec) out → (p : ℕ) → p < 34 → byte a p ≡ byte rec p
-copied rec out a lr e p h =
-    ap (λ (l : List ℕ). byte l p) (e ∙ ap (λ (l : List ℕ). l ++ drop (length rec) out) (take-length rec))
-    ∙ List·getD-append rec (drop (length rec) out) 0 p (omega arith)
-
-pub stored-by : (rec l x : List ℕ) (d : Change) → length rec ≡ 34 → ((p : ℕ) → p < 34 → byte l p ≡ byte rec p)
-    → Reached built-in 4 (34 ∷ 35 ∷ []) l (applied l d) → x ≡ applied l d → OneMember (Stored built-in rec) x
-stored-by rec l x d lr front h e = stored rec l lr front x (subst (Reached built-in 4 (34 ∷ 35 ∷ []) l) (sym e) h)
+pub stored : (rec out out′ : List ℕ) → length out ≡ 45 → length rec ≡ 34 → OneMember (Stored built-in rec) out′ → StoreDone rec out done rec out′
+unfolding store-cause
+stored rec out out′ e r one = record {
+  record-kept = refl;
+  by-cause = by-done (store-cause rec out) done _ _ (rw (eq-eqb (length out) 45 e, eq-eqb (length rec) 34 r)) (refl, one);
+}

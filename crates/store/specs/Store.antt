@@ -1,23 +1,22 @@
 -- What storing does, for any record and any output. Demand 2, first sentence, and demand 1.
-use Prim.Native.Nat.{ℕ, zero, suc}
+--
+--   store-cause    why a call is refused: 2, the output is not 45 bytes; 3, the record is not 34
+--   StoreDone      what the call answers, and the record and the output after it
+use Prim.Native.Nat.{ℕ}
 use mathlib.Core.Path.{_≡_}
 use mathlib.Core.Bool.{not}
 use mathlib.Core.List.{List, [], _∷_}
 use lib.Dec.{eqb}
 use lib.ListN.{length}
-use Rattle.refusal.specs.Refusal.{cause, lowest, outcome}
-use Rattle.refusal.specs.declared.Outcome.{Outcome}
+use Rattle.answer.specs.Answer.{Answer, done, By}
+use Rattle.answer.specs.Cause.{cause, lowest}
 use Rattle.code.specs.Block.{OneMember, Stored}
 use Rattle.code.specs.Labels.{built-in}
 
--- 2: the output is not 45 bytes; 3: the record is not 34 bytes
 unfoldable pub store-cause : List ℕ → List ℕ → ℕ
 store-cause rec out = lowest (cause 2 (not (eqb (length out) 45)) ∷ cause 3 (not (eqb (length rec) 34)) ∷ [])
 
--- the output after it: the only lawful block that begins with the record, or as it was
-abbrev pub StoredBy : ℕ → List ℕ → List ℕ → List ℕ → Type 0
-StoredBy zero rec out out′ = OneMember (Stored built-in rec) out′
-StoredBy (suc n) rec out out′ = out′ ≡ out
-
-unfoldable pub StoreDone : List ℕ → List ℕ → Outcome → List ℕ → Type 0
-StoreDone rec out r out′ = (r ≡ outcome (store-cause rec out)) × StoredBy (store-cause rec out) rec out out′
+-- the output becomes the only lawful block that begins with the record
+pub record StoreDone (rec out : List ℕ) (a : Answer) (rec′ out′ : List ℕ) : Type 0 where
+  pub record-kept : rec′ ≡ rec
+  pub by-cause : By (store-cause rec out) a (out′ ≡ out) ((a ≡ done) × OneMember (Stored built-in rec) out′)

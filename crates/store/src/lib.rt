@@ -1,44 +1,108 @@
 // Storing a record of 34 bytes as the only lawful block that begins with it.
+//
+// The record goes into the output with bytes 34 and 35 as 0 and card 4 as what makes every row 0. The two label sums of that block are
+// then those of card 4's reduced matrix, and bytes 34 and 35 are the two unknowns that make them 0; each is added to card 4 as well, so
+// that its row stays 0. Nothing of the output is read before it is written.
 ghost use mathlib.Core.Path.{_≡_};
-ghost use mathlib.Core.List.{List, [], _∷_};
+ghost use Prim.Native.Nat.{_+_, _<_, _≤_};
 ghost use lib.ListN.{length};
-ghost use Rattle.code.specs.Block.{Block};
+ghost use Rattle.answer.specs.Answer.{outcome-answer};
+ghost use Rattle.field.specs.Field.{_⊕_, _·_};
+ghost use Rattle.code.specs.Block.{OneMember, Stored};
 ghost use Rattle.code.specs.Labels.{built-in};
-ghost use Rattle.code.specs.Reach.{Reached};
-ghost use Rattle.solve.specs.Solve.{applied};
+ghost use Rattle.store.specs.Steps.{chip-sum, Copied, Filled, Begun, in-row};
 ghost use Rattle.store.specs.Store.{StoreDone};
 
-// The change that makes the check bytes right, whatever they hold: card 4, and chips 7 and 8 of card 3, positions 34 and 35.
-fn check_bytes(block: &[u8]) -> solve::Change
-    requires { ⌜ length (now block) ≡ 45 ⌝ }
-    ensures { λ r. ⌜ Reached built-in 4 (34 ∷ 35 ∷ []) (now (block .entry)) (applied (now (block .entry)) r) ⌝ }
+// Copies from into the front of to.
+fn copy(from: &[u8], to: &mut [u8])
+    requires { ⌜ length (now from) ≤ length (now to) ⌝ }
+    ensures { λ _. ⌜ Copied (now (from .entry)) (now (to .entry)) (now (to .exit)) ⌝ }
 {
-    let labels = code::labels();
-    let words = sums::built_in();
-    let s = solve::sums_of(block, &words);
-    let t = solve::reduced(&words, s, 4);
-    let rows = s.rows;
-    let places = solve::Places {
-        count: 2,
-        first: 34,
-        second: 35,
-    };
-    let found = solve::solve(&labels, rows, t, 4, places);
-    found.change
+    let mut p: usize = 0;
+    while p < from.len() {
+        to[p] = from[p];
+        p = p + 1;
+    }
 }
 
-// Writes the record's block into the output. 2: the output is not 45 bytes; 3: the record is not 34.
-pub fn store(rec: &[u8], out: &mut [u8]) -> refusal::Outcome
-    ensures { λ r. ⌜ StoreDone (now (rec .entry)) (now (out .entry)) r (now (out .exit)) ⌝ }
+// The sum of the record's bytes of chip i; chips 7 and 8 have none on card 3.
+fn row(rec: &[u8], i: usize) -> u8
+    requires { ⌜ (length (now rec) ≡ 34) × (i < 9) ⌝ }
+    ensures { λ r. ⌜ r ≡ chip-sum (now (rec .entry)) i ⌝ }
+{
+    let three = rec[i] ^ rec[i + 9] ^ rec[i + 18];
+    if i < 7 { three ^ rec[i + 27] } else { three }
+}
+
+// Writes card 4: the record's rows.
+fn fill(rec: &[u8], out: &mut [u8])
+    requires { ⌜ (length (now rec) ≡ 34) × (length (now out) ≡ 45) ⌝ }
+    ensures { λ _. ⌜ Filled (now (rec .entry)) (now (out .entry)) (now (out .exit)) ⌝ }
+{
+    let mut i: usize = 0;
+    while i < 9 {
+        out[36 + i] = row(rec, i);
+        i = i + 1;
+    }
+}
+
+// Writes all 45 bytes: the record, two zeros, and card 4. The record goes by way of 34 bytes of our own: they cannot be those that are
+// written, so that they are moved in one piece.
+fn begin(rec: &[u8], out: &mut [u8])
+    requires { ⌜ (length (now rec) ≡ 34) × (length (now out) ≡ 45) ⌝ }
+    ensures { λ _. ⌜ Begun (now (rec .entry)) (now (out .exit)) ⌝ }
+{
+    let mut own = [0u8; 34];
+    copy(rec, &mut own);
+    copy(&own, out);
+    out[34] = 0;
+    out[35] = 0;
+    fill(rec, out);
+}
+
+// The sum of two products.
+fn combine(s: u8, f: u8, t: u8, g: u8) -> u8
+    ensures { λ r. ⌜ r ≡ (s · f) ⊕ (t · g) ⌝ }
+{
+    field::add(field::mul(s, f), field::mul(t, g))
+}
+
+// Adds e to a byte of card 3 and to the byte of card 4 in its row.
+fn add_in_row(out: &mut [u8], p: usize, e: u8)
+    requires { ⌜ p + 9 < length (now out) ⌝ }
+    ensures { λ _. ⌜ now (out .exit) ≡ in-row (now (out .entry)) p e ⌝ }
+{
+    out[p] = field::add(out[p], e);
+    out[p + 9] = field::add(out[p + 9], e);
+}
+
+// Writes the record's block into the output.
+fn write(rec: &[u8], out: &mut [u8])
+    requires { ⌜ (length (now rec) ≡ 34) × (length (now out) ≡ 45) ⌝ }
+    ensures { λ _. ⌜ OneMember (Stored built-in (now (rec .entry))) (now (out .exit)) ⌝ }
+{
+    begin(rec, out);
+    let words = sums::built_in();
+    let u = sums::gather(out, &words);
+    let once = sums::at_x(u);
+    let squared = sums::at_x_squared(u);
+    // The four factors are those of the built-in labels.
+    let x = combine(once, 26, squared, 243);
+    let y = combine(once, 136, squared, 247);
+    add_in_row(out, 34, x);
+    add_in_row(out, 35, y);
+}
+
+// Stores a record. 2: the output is not 45 bytes; 3: the record is not 34.
+pub fn store(rec: &[u8], out: &mut [u8]) -> answer::Outcome
+    ensures { λ r. ⌜ StoreDone (now (rec .entry)) (now (out .entry)) (outcome-answer r) (now (rec .exit)) (now (out .exit)) ⌝ }
 {
     if out.len() != 45 {
-        return refusal::Outcome::Refused(2);
+        return answer::Outcome::Refused(2);
     }
     if rec.len() != 34 {
-        return refusal::Outcome::Refused(3);
+        return answer::Outcome::Refused(3);
     }
-    bytes::copy(rec, out);
-    let change = check_bytes(out);
-    solve::apply(out, change);
-    refusal::Outcome::Done
+    write(rec, out);
+    answer::Outcome::Done
 }

@@ -1,18 +1,26 @@
 -- A map made of shifts, masks and sums is additive, so that it is known by its values at the powers of 2.
+--
+--   low, part, up                          a mask; a shift down and a mask; a shift up in 64 digits
+--   quotient, less                         how often the modulus goes into a polynomial, and what is left
+--   by-quotient-is, by-quotient-below      that is the remainder, and a byte
+--   folding                                three folds, by their masks and shifts
+--   folded, folded2                        the bytes of a word as a polynomial at x and at x squared, not yet reduced
+--   folded-below, folded2-below            its degree is 21 at most
+--   first-is, second-is                    reduced, it is the value at the point
 use mathlib.Core.Path.{_≡_, refl, sym, ap, ap₂, _∙_, subst}
-use Prim.Native.Nat.{ℕ, zero, suc, _+_, _*_, _/_, _%_, _^_, _<_, min}
+use Prim.Native.Nat.{ℕ, _+_, _*_, _/_, _%_, _^_, _<_, min}
 use native.Mathlib.Nat.{mod-eq-of-lt, mod-lt}
 use lib.Arith.{bin-ind}
 use lib.Bits.{bitAnd, bitXor, differ, and-step, xor-step, xor-shr, xor-mod, and-shr, and-mod, and-mask}
-use lib.Dec.{T, eqb, eqb→eq, ltb, ltb→lt}
+use lib.Dec.{T, eqb, ltb, ltb→lt}
 use lib.Pow.{pow-pos}
-use Rattle.field.specs.Field.{_⊕_, polynomial-product, remainder, product}
-use Rattle.field.proofs.Tests.{every, every-at}
+use Rattle.field.specs.Field.{_⊕_, sum, polynomial-product, remainder, product}
+use Rattle.base.proofs.Tests.{every, every-at}
 use Rattle.field.proofs.Xor.{sums, add-shr, add-mod}
 use Rattle.field.proofs.Remainder.{times-pow-add, remainder-add}
-use Rattle.field.proofs.Linear.{bit-lt, bit-ind, Additive, additive-ext, additive-below}
-use Rattle.sums.specs.Sums.{at-point, reduced}
-use Rattle.sums.proofs.Points.{at-point-add}
+use Rattle.field.proofs.Linear.{bit-lt, bit-ind, Additive, additive-below}
+use Rattle.sums.specs.Words.{at-point, reduced}
+use Rattle.sums.proofs.Points.{at-point-add, agree}
 
 -- the digits of v in the mask m; of v shifted down by s
 unfoldable pub low : ℕ → ℕ → ℕ
@@ -61,12 +69,6 @@ up-add : (s : ℕ) → Additive (up s)
 unfolding up
 up-add s a b = ap (λ (x : ℕ). x % 2 ^ 64) (times-pow-add a b s) ∙ add-mod (a * 2 ^ s) (b * 2 ^ s) 64
 
--- the test at the n powers of 2, of two additive maps
-agree : (f g : ℕ → ℕ) → Additive f → Additive g → (n : ℕ) → T (every (λ i. eqb (f (2 ^ i)) (g (2 ^ i))) n) → (u : ℕ) → u < 2 ^ n → f u ≡ g u
-agree f g hf hg n test u h =
-    let e : u ≡ u % 2 ^ n = sym (mod-eq-of-lt h) in
-    ap f e ∙ additive-ext f g hf hg n (λ i l. eqb→eq (f (2 ^ i)) (g (2 ^ i)) (every-at (λ i. eqb (f (2 ^ i)) (g (2 ^ i))) n test i l)) u ∙ ap g (sym e)
-
 -- ---- the reduction
 -- how often the modulus goes into h times x ^ 8: it goes into x ^ 8 1 + x ^ -4 + x ^ -5 + x ^ -6 + x ^ -10 + x ^ -13 + .. times
 unfoldable pub quotient : ℕ → ℕ
@@ -89,7 +91,7 @@ by-quotient-add a b = simp (low-add, up-add, quotient-add, add-shr, sums)
 
 reduced-add : Additive reduced
 unfolding reduced
-reduced-add = remainder-add 7 0x11D 14
+reduced-add = remainder-add 8 0x11D 14
 
 quotient-test : T (every (λ i. eqb (by-quotient (2 ^ i)) (reduced (2 ^ i))) 22)
 unfolding low up quotient less reduced remainder _⊕_
@@ -114,42 +116,29 @@ pair m s n u = low m u ⊕ part s n u
 pair-add : (m s n : ℕ) → Additive (pair m s n)
 pair-add m s n a b = simp (low-add, part-add, sums)
 
-thrice-add : (f g h : ℕ → ℕ) → Additive f → Additive g → Additive h → Additive (λ a. f (g (h a)))
-thrice-add f g h hf hg hh = after f (λ a. g (h a)) hf (after g h hg hh)
+-- three folds, each of neighbours
+unfoldable pub folding : (m₁ s₁ n₁ m₂ s₂ n₂ m₃ s₃ n₃ : ℕ) → ℕ → ℕ
+folding m₁ s₁ n₁ m₂ s₂ n₂ m₃ s₃ n₃ u = pair m₃ s₃ n₃ (pair m₂ s₂ n₂ (pair m₁ s₁ n₁ u))
+
+folding-add : (m₁ s₁ n₁ m₂ s₂ n₂ m₃ s₃ n₃ : ℕ) → Additive (folding m₁ s₁ n₁ m₂ s₂ n₂ m₃ s₃ n₃)
+unfolding folding
+folding-add m₁ s₁ n₁ m₂ s₂ n₂ m₃ s₃ n₃ =
+    after (pair m₃ s₃ n₃) (λ u. pair m₂ s₂ n₂ (pair m₁ s₁ n₁ u)) (pair-add m₃ s₃ n₃)
+    (after (pair m₂ s₂ n₂) (pair m₁ s₁ n₁) (pair-add m₂ s₂ n₂) (pair-add m₁ s₁ n₁))
 
 -- neighbours added, the upper one times x; then pairs, times x ^ 2; then fours, times x ^ 4
-abbrev ones : ℕ → ℕ
-ones = pair 0x00ff00ff00ff00ff 7 0x01fe01fe01fe01fe
-
-abbrev twos : ℕ → ℕ
-twos = pair 0x0000ffff0000ffff 14 0x0003fffc0003fffc
-
-abbrev fours : ℕ → ℕ
-fours = pair 0xffff 28 0xffff0
-
-unfoldable pub folded : ℕ → ℕ
-folded u = fours (twos (ones u))
+abbrev pub folded : ℕ → ℕ
+folded = folding 0x00ff00ff00ff00ff 7 0x01fe01fe01fe01fe 0x0000ffff0000ffff 14 0x0003fffc0003fffc 0xffff 28 0xffff0
 
 folded-add : Additive folded
-unfolding folded
-folded-add = thrice-add fours twos ones (pair-add _ _ _) (pair-add _ _ _) (pair-add _ _ _)
+folded-add = folding-add _ _ _ _ _ _ _ _ _
 
 -- the same times x ^ 2, x ^ 4 and x ^ 8
-abbrev ones2 : ℕ → ℕ
-ones2 = pair 0x00ff00ff00ff00ff 6 0x03fc03fc03fc03fc
-
-abbrev twos2 : ℕ → ℕ
-twos2 = pair 0x0000ffff0000ffff 12 0x000ffff0000ffff0
-
-abbrev fours2 : ℕ → ℕ
-fours2 = pair 0xffffff 24 0xffffff00
-
-unfoldable pub folded2 : ℕ → ℕ
-folded2 u = fours2 (twos2 (ones2 u))
+abbrev pub folded2 : ℕ → ℕ
+folded2 = folding 0x00ff00ff00ff00ff 6 0x03fc03fc03fc03fc 0x0000ffff0000ffff 12 0x000ffff0000ffff0 0xffffff 24 0xffffff00
 
 folded2-add : Additive folded2
-unfolding folded2
-folded2-add = thrice-add fours2 twos2 ones2 (pair-add _ _ _) (pair-add _ _ _) (pair-add _ _ _)
+folded2-add = folding-add _ _ _ _ _ _ _ _ _
 
 -- what a fold gives has degree 21 at most, and reduced it is the bytes' polynomial at a point
 module _ (fold : ℕ → ℕ) (add : Additive fold) where
@@ -162,19 +151,19 @@ module _ (fold : ℕ → ℕ) (add : Additive fold) where
   at c = agree (λ u. reduced (fold u)) (at-point c 8) (after reduced fold reduced-add add) (at-point-add c 8) 64
 
 pub folded-below : (u : ℕ) → u < 2 ^ 64 → folded u < 2 ^ 22
-unfolding low part folded _⊕_
+unfolding low part folding _⊕_
 folded-below = below folded folded-add tt
 
 pub folded2-below : (u : ℕ) → u < 2 ^ 64 → folded2 u < 2 ^ 22
-unfolding low part folded2 _⊕_
+unfolding low part folding _⊕_
 folded2-below = below folded2 folded2-add tt
 
 first-test : T (every (λ i. eqb (reduced (folded (2 ^ i))) (at-point 2 8 (2 ^ i))) 64)
-unfolding low part folded reduced at-point product remainder polynomial-product _⊕_
+unfolding low part folding reduced at-point product remainder polynomial-product sum _⊕_
 first-test = tt
 
 second-test : T (every (λ i. eqb (reduced (folded2 (2 ^ i))) (at-point 4 8 (2 ^ i))) 64)
-unfolding low part folded2 reduced at-point product remainder polynomial-product _⊕_
+unfolding low part folding reduced at-point product remainder polynomial-product sum _⊕_
 second-test = tt
 
 pub first-is : (u : ℕ) → u < 2 ^ 64 → reduced (folded u) ≡ at-point 2 8 u

@@ -1,4 +1,6 @@
 pub mod Points
+pub mod Bytes
+pub mod Cards
+pub mod Zero
 pub mod Fold
-pub mod Rows
-pub mod Table
+pub mod Syndrome

@@ -1,49 +1,42 @@
--- The sums that the check rules ask to be 0 (together: the syndrome of a block), and the words that the code makes them from.
+-- The sums that the check rules ask to be 0 (together: the syndrome of a block).
 --
---   RowSums b r      r holds the nine sums of chips
---   label-sum        the sum of label times byte, over the first n positions
---   square-sum       the sum of label squared times byte
---   spread-of n x    the n lowest binary digits of x, one to a byte of a word
---   Spread           words holds the labels so
---   at-point c n u   the n bytes of u as a polynomial's coefficients, the lowest first, at the point c of the field
---   Gathered         u gathers n bytes by their labels: at the point x it is their label sum, at x squared their square sum
---   reduced v        the remainder of a polynomial of degree 21 at most by the field's modulus
+--   rows-of s         the nine rows, by chips
+--   IsSums            s holds the eleven sums of the block b
+--   all-zero s        all eleven are 0
+--   BlockSums         what is asked of a block's sums: of 45 bytes they are its sums under the built-in labels, of any other length zeros
+--   ReducedSums       the two sums of card j's reduced matrix: card j has dropped out
 use mathlib.Core.Path.{_≡_}
-use mathlib.Core.List.{List}
-use Prim.Native.Nat.{ℕ, zero, suc, _+_, _*_, _/_, _%_, _^_, _<_}
-use lib.ListN.{getD, length}
-use Rattle.field.specs.Field.{_⊕_, _·_, sum, remainder}
-use Rattle.code.specs.Block.{byte, position}
+use mathlib.Core.Logic.{_≢_}
+use mathlib.Core.Bool.{Bool, _&&_}
+use mathlib.Core.List.{List, [], _∷_}
+use Prim.Native.Nat.{ℕ, _^_, _<_}
+use lib.Dec.{eqb}
+use lib.ListN.{length}
+use Rattle.field.specs.Field.{_·_, sum}
+use Rattle.code.specs.Block.{byte, position, listed}
+use Rattle.code.specs.Labels.{entry, built-in}
+use Rattle.sums.specs.Words.{byte-of}
+use Rattle.sums.specs.declared.Sums.{Sums}
 
-pub record RowSums (b r : List ℕ) : Type 0 where
-  pub nine : length r ≡ 9
-  pub each : (i : ℕ) → i < 9 → getD r i 0 ≡ sum 5 (λ j. byte b (position j i))
+abbrev pub rows-of : Sums → List ℕ
+rows-of s = listed (byte-of (s .low)) 8 (s .high ∷ [])
 
-unfoldable pub label-sum : ℕ → List ℕ → List ℕ → ℕ
-label-sum n labels bytes = sum n (λ p. byte labels p · byte bytes p)
+pub record IsSums (labels b : List ℕ) (s : Sums) : Type 0 where
+  pub rows : (i : ℕ) → i < 9 → byte (rows-of s) i ≡ sum 5 (λ j. byte b (position j i))
+  -- eight bytes are all of the word
+  pub eight : s .low < 2 ^ 64
+  pub once : s .once ≡ sum 45 (λ p. byte labels p · byte b p)
+  pub squared : s .squared ≡ sum 45 (λ p. (byte labels p · byte labels p) · byte b p)
 
-unfoldable pub square-sum : ℕ → List ℕ → List ℕ → ℕ
-square-sum n labels bytes = sum n (λ p. (byte labels p · byte labels p) · byte bytes p)
+abbrev pub all-zero : Sums → Bool
+all-zero s = eqb (s .low) 0 && (eqb (s .high) 0 && (eqb (s .once) 0 && eqb (s .squared) 0))
 
-unfoldable pub spread-of : ℕ → ℕ → ℕ
-spread-of zero x = 0
-spread-of (suc n) x = spread-of n (x / 2) * 2 ^ 8 + x % 2
+-- b′ is the block after the call
+pub record BlockSums (b : List ℕ) (s : Sums) (b′ : List ℕ) : Type 0 where
+  pub block : length b ≡ 45 → IsSums built-in b s
+  pub other : length b ≢ 45 → s ≡ record { low = 0; high = 0; once = 0; squared = 0 }
+  pub kept : b′ ≡ b
 
-pub record Spread (n : ℕ) (labels words : List ℕ) : Type 0 where
-  pub bytes : (p : ℕ) → p < n → byte labels p < 2 ^ 8
-  pub each : (p : ℕ) → p < n → getD words p 0 ≡ spread-of 8 (byte labels p)
-
--- a byte times such a word fits 64 bits
-abbrev pub Small : List ℕ → Type 0
-Small words = (p : ℕ) → p < length words → getD words p 0 < 0x0101010101010102
-
-unfoldable pub at-point : ℕ → ℕ → ℕ → ℕ
-at-point c zero u = 0
-at-point c (suc n) u = (u % 2 ^ 8) ⊕ (c · at-point c n (u / 2 ^ 8))
-
-pub record Gathered (n : ℕ) (labels bytes : List ℕ) (u : ℕ) : Type 0 where
-  pub once : at-point 2 8 u ≡ label-sum n labels bytes
-  pub squared : at-point 4 8 u ≡ square-sum n labels bytes
-
-unfoldable pub reduced : ℕ → ℕ
-reduced v = remainder 7 0x11D 14 v
+pub record ReducedSums (labels b : List ℕ) (j t₁ t₂ : ℕ) : Type 0 where
+  pub once : t₁ ≡ sum 45 (λ p. entry labels j p · byte b p)
+  pub squared : t₂ ≡ sum 45 (λ p. (entry labels j p · entry labels j p) · byte b p)

@@ -1,16 +1,26 @@
 // The eleven sums of a block: nine of chips, and two of labels times bytes.
 //
+// The nine are made eight at a time, a card's chips 0 to 7 as one word and chip 8 apart.
+//
 // The label sums take no product a byte. A label is kept as a word with one of its eight binary digits in each byte, so that byte times
 // word, summed over the positions, gathers in byte k the bytes whose label has digit k. A label sum is then that word's eight bytes as a
 // polynomial, at x for the labels and at x squared for their squares.
 ghost use mathlib.Core.Path.{_≡_};
-ghost use mathlib.Core.List.{List};
-ghost use Prim.Native.Nat.{ℕ, _<_, _^_};
-ghost use lib.ListN.{length};
-ghost use Rattle.code.specs.Labels.{built-in};
+ghost use Prim.Native.Nat.{ℕ, _+_, _*_, _/_, _%_, _<_, _≤_, _^_};
+ghost use lib.ListN.{length, getD};
 ghost use Rattle.field.specs.Field.{sum};
 ghost use Rattle.code.specs.Block.{byte, position};
-ghost use Rattle.sums.specs.Sums.{RowSums, Spread, Small, at-point, Gathered, reduced};
+ghost use Rattle.code.specs.Labels.{built-in};
+ghost use Rattle.sums.specs.Words.{byte-of, spread, Small, Gathers, at-point, reduced};
+ghost use Rattle.sums.specs.Sums.{rows-of, all-zero, BlockSums};
+
+// The row of chip i in byte i of `low`, of chip 8 in `high`; the sum of label times byte, and of label squared times byte.
+pub struct Sums {
+    pub low: u64,
+    pub high: u8,
+    pub once: u8,
+    pub squared: u8,
+}
 
 // The 45 built-in labels, spread.
 const WORDS: [u64; 45] = [
@@ -63,7 +73,7 @@ const WORDS: [u64; 45] = [
 
 // The built-in labels' words.
 pub fn built_in() -> [u64; 45]
-    ensures { λ r. ⌜ Spread 45 built-in r × Small r ⌝ }
+    ensures { λ r. ⌜ r ≡ spread built-in ⌝ }
 {
     WORDS
 }
@@ -74,18 +84,29 @@ fn wide(x: u8) -> u64
     x as u64
 }
 
-// Byte k of the word is the sum of the bytes whose label has digit k.
-pub fn gather(bytes: &[u8], words: &[u64]) -> u64
-    requires { ⌜ (length (now bytes) ≡ length (now words)) × Small (now words) ⌝ }
-    ensures { λ u. ⌜ ((labels : List ℕ) → Spread (length (now (bytes .entry))) labels (now (words .entry)) → Gathered (length (now (bytes .entry))) labels (now (bytes .entry)) u) ⌝ }
+// ---- the gathered word
+
+// The first n bytes times their words. The bound is a parameter, so that it is a constant for a block.
+fn gather_first(bytes: &[u8], words: &[u64], n: usize) -> u64
+    requires { ⌜ (n ≤ length (now bytes)) × (n ≤ length (now words)) × Small (now words) ⌝ }
+    ensures { λ u. ⌜ u ≡ sum n (λ p. byte (now (bytes .entry)) p * getD (now (words .entry)) p 0) ⌝ }
 {
     let mut u: u64 = 0;
     let mut p: usize = 0;
-    while p < bytes.len() {
+    while p < n {
         u = (wide(bytes[p]) * words[p]) ^ u;
         p = p + 1;
     }
     u
+}
+
+// Each byte times its word, summed: of spread labels, byte k is the sum of the bytes whose label has digit k. Asked for is a word for each byte,
+// small enough that the product fits.
+pub fn gather(bytes: &[u8], words: &[u64]) -> u64
+    requires { ⌜ (length (now bytes) ≡ length (now words)) × Small (now words) ⌝ }
+    ensures { λ u. ⌜ Gathers (now (bytes .entry)) (now (words .entry)) u (now (bytes .exit)) (now (words .exit)) ⌝ }
+{
+    gather_first(bytes, words, bytes.len())
 }
 
 // The remainder of a polynomial of degree 21 at most: q times the modulus x ^ 8 + x ^ 4 + x ^ 3 + x ^ 2 + 1 is taken off. The modulus goes into
@@ -119,28 +140,105 @@ pub fn at_x_squared(u: u64) -> u8
     reduce(c)
 }
 
-// The sum of the five bytes of chip i.
-fn row_sum(block: &[u8], i: usize) -> u8
-    requires { ⌜ (length (now block) ≡ 45) × (i < 9) ⌝ }
-    ensures { λ r. ⌜ r ≡ sum 5 (λ j. byte (now (block .entry)) (position j i)) ⌝ }
+// ---- the rows
+
+// The byte i places after `at`, shifted up by k digits.
+fn place(b: &[u8], at: usize, i: usize, k: u64) -> u64
+    requires { ⌜ (at + i < length (now b)) × (k < 64) ⌝ }
+    ensures { λ r. ⌜ r ≡ byte (now (b .entry)) (at + i) * 2 ^ k % 2 ^ 64 ⌝ }
 {
-    block[i] ^ block[i + 9] ^ block[i + 18] ^ block[i + 27] ^ block[i + 36]
+    wide(b[at + i]) << k
 }
 
-// The nine sums of chips.
-pub fn row_sums(block: &[u8]) -> [u8; 9]
-    requires { ⌜ length (now block) ≡ 45 ⌝ }
-    ensures { λ r. ⌜ RowSums (now (block .entry)) r ⌝ }
+// Eight bytes from a place on as a word, the first lowest.
+fn word(b: &[u8], at: usize) -> u64
+    requires { ⌜ at + 8 ≤ length (now b) ⌝ }
+    ensures { λ r. ⌜ ((i : ℕ) → i < 8 → byte-of r i ≡ byte (now (b .entry)) (at + i)) ⌝ }
 {
+    place(b, at, 0, 0)
+        ^ place(b, at, 1, 8)
+        ^ place(b, at, 2, 16)
+        ^ place(b, at, 3, 24)
+        ^ place(b, at, 4, 32)
+        ^ place(b, at, 5, 40)
+        ^ place(b, at, 6, 48)
+        ^ place(b, at, 7, 56)
+}
+
+// The rows of chips 0 to 7.
+fn low_rows(b: &[u8]) -> u64
+    requires { ⌜ length (now b) ≡ 45 ⌝ }
+    ensures { λ r. ⌜ ((i : ℕ) → i < 8 → byte-of r i ≡ sum 5 (λ j. byte (now (b .entry)) (position j i))) ⌝ }
+{
+    word(b, 0) ^ word(b, 9) ^ word(b, 18) ^ word(b, 27) ^ word(b, 36)
+}
+
+// The row of chip 8.
+fn last_row(b: &[u8]) -> u8
+    requires { ⌜ length (now b) ≡ 45 ⌝ }
+    ensures { λ r. ⌜ r ≡ sum 5 (λ j. byte (now (b .entry)) (position j 8)) ⌝ }
+{
+    b[8] ^ b[17] ^ b[26] ^ b[35] ^ b[44]
+}
+
+// ---- the sums
+
+// The sums of 45 bytes under the built-in labels; of any other length all zeros.
+pub fn of_block(block: &[u8]) -> Sums
+    ensures { λ r. ⌜ BlockSums (now (block .entry)) r (now (block .exit)) ⌝ }
+{
+    if block.len() != 45 {
+        return Sums {
+            low: 0,
+            high: 0,
+            once: 0,
+            squared: 0,
+        };
+    }
+    // The words are made here, where the bound is known: each is then a constant of its own step.
+    let words = built_in();
+    let u = gather_first(block, &words, 45);
+    let low = low_rows(block);
+    let high = last_row(block);
+    let once = at_x(u);
+    let squared = at_x_squared(u);
+    Sums {
+        low,
+        high,
+        once,
+        squared,
+    }
+}
+
+// Whether all eleven are 0.
+pub fn is_zero(s: Sums) -> bool
+    ensures { λ r. ⌜ r ≡ all-zero s ⌝ }
+{
+    (s.low | wide(s.high) | wide(s.once) | wide(s.squared)) == 0
+}
+
+// The byte of a word that begins at digit k.
+fn part(u: u64, k: u64) -> u8
+    requires { ⌜ k < 64 ⌝ }
+    ensures { λ r. ⌜ r ≡ u / 2 ^ k % 2 ^ 8 ⌝ }
+{
+    ((u >> k) & 0xff) as u8
+}
+
+// The nine rows, by chips.
+pub fn rows(s: Sums) -> [u8; 9]
+    ensures { λ r. ⌜ r ≡ rows-of s ⌝ }
+{
+    let u = s.low;
     [
-        row_sum(block, 0),
-        row_sum(block, 1),
-        row_sum(block, 2),
-        row_sum(block, 3),
-        row_sum(block, 4),
-        row_sum(block, 5),
-        row_sum(block, 6),
-        row_sum(block, 7),
-        row_sum(block, 8),
+        part(u, 0),
+        part(u, 8),
+        part(u, 16),
+        part(u, 24),
+        part(u, 32),
+        part(u, 40),
+        part(u, 48),
+        part(u, 56),
+        s.high,
     ]
 }

@@ -1,4 +1,3 @@
-pub mod Decide
-pub mod Candidate
-pub mod Row
+pub mod Settled
+pub mod Rows
 pub mod Table

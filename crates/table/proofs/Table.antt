@@ -1,43 +1,92 @@
--- The starred blocks read as document 01 says: antt computes the tests of the ten rows, over the labels in figures.
-use mathlib.Core.Path.{sym, subst}
-use mathlib.Core.Bool.{Bool, true}
+-- The starred blocks read as document 01 says.
+--
+--   holds       a row, from the tests of its marks and its block
+--   two-chips   the change of bytes 0 and 1 is not of the chip kind
+--   also        a row, and the rows after it
+--   starred     THE TABLE
+--   beside      the row after it
+use mathlib.Core.Logic.{_⊎_, inl, inr}
+use mathlib.Core.Path.{_≡_, refl}
 use mathlib.Core.List.{List, [], _∷_}
-use Prim.Native.Nat.{ℕ}
-use lib.Dec.{T}
+use Prim.Native.Nat.{ℕ, _≤_}
+use native.Mathlib.Omega.{arith}
+use lib.Dec.{T, ltb}
+use lib.ListN.{length}
+use Rattle.base.specs.Base.{In, tally}
+use Rattle.base.proofs.Tests.{every}
+use Rattle.answer.specs.Answer.{clean}
 use Rattle.field.specs.Field.{sum, _⊕_, polynomial-product, remainder, product}
-use Rattle.field.proofs.Tests.{both, both-left, both-right}
-use Rattle.field.proofs.Moore.{fr, sq}
-use Rattle.field.proofs.Product.{mul, rounds, times-x}
-use Rattle.field.proofs.Inverse.{inverse, powers, square}
-use Rattle.field.proofs.Gf256.{inverse-of}
-use Rattle.code.specs.Block.{block-of, changes-below}
+use Rattle.field.proofs.Squares.{squared}
+use Rattle.code.specs.Block.{byte, Block, changes}
 use Rattle.code.specs.Labels.{built-in}
-use Rattle.code.proofs.Change.{patch, fill}
-use Rattle.code.proofs.Solve.{quot, first, second}
-use Rattle.code.specs.Reach.{keep}
-use Rattle.code.proofs.BuiltIn.{figures, in-figures}
-use Rattle.marks.specs.Marks.{in-range, two-equal, marks-cause}
-use Rattle.table.specs.Table.{Row, starred-blocks, EveryRow, StarredBlocks}
-use Rattle.table.specs.Table.Row.{row}
-use Rattle.table.proofs.Decide.{alike, of-kind, chip-kind, card-kind, card-changed}
-use Rattle.table.proofs.Candidate.{reduced, fits-by, mended-by, fits-on, block-on}
-use Rattle.table.proofs.Row.{answer-test, row-test, row-holds}
+use Rattle.code.specs.Reach.{rules, Few, keep}
+use Rattle.code.proofs.BuiltIn.{figures, built-in-set}
+use Rattle.code.proofs.Eliminate as eliminate
+use Rattle.code.proofs.Reach.{fits}
+use Rattle.code.proofs.Members.{zero-stored}
+use Rattle.marks.specs.Marks.{marked-chips, marks-cause, in-range, two-equal}
+use Rattle.marks.specs.declared.CardMark.the-variants.{None, Card}
+use Rattle.marks.specs.declared.Marks.{Marks}
+use Rattle.marks.proofs.Laws.{cause-lawful}
+use Rattle.reading.specs.Allowed.{ChipKind}
+use Rattle.reading.proofs.Marked.{few-chips}
+use Rattle.reading.proofs.Searches.{covered-beside}
+use Rattle.reading.proofs.Facts.{clean-reads}
+use Rattle.table.specs.Table.{zeros-but, zeros, six, Told, Holds, StarredBlocks, BesideCard}
+use Rattle.table.proofs.Settled.{Exactly, one-answer, no-member}
+use Rattle.table.proofs.Rows.{block-by, lawful-by, chips-row, card-row, reached-fits, only-card, search-row, several-row}
 
-abbrev every-test : List ℕ → List Row → Bool
-every-test ls [] = true
-every-test ls (r ∷ rows) = both (row-test ls r) (every-test ls rows)
+holds : {m : Marks} {b : List ℕ} {told : Told} → marks-cause m ≡ 0 → length b ≡ 45 → T (every (λ p. ltb (byte b p) 256) 45)
+    → (Block b → Few rules (marked-chips m) → Exactly (m .card) (marked-chips m) b told) → Holds m b told
+unfolding Exactly
+holds {m} {b} e l t f =
+    let lm = cause-lawful m e in
+    let bb = block-by b l t in
+    record { marks = lm; block = bb; reading = f bb (few-chips m lm) }
 
-every-row : (rows : List Row) → T (every-test built-in rows) → EveryRow rows
-every-row [] t = tt
-every-row (row k l a ∷ rows) t =
-    let s = row-test built-in (row k l a) in
-    let u = every-test built-in rows in
-    (row-holds k l a (both-left s u t), every-row rows (both-right s u t))
+-- bytes 0, 1 = 1, 1
+abbrev ones-set : List ℕ
+ones-set = zeros-but ((0, 1) ∷ (1, 1) ∷ [])
 
-passes : T (every-test figures starred-blocks)
-unfolding figures sum _⊕_ polynomial-product remainder product fr sq mul rounds times-x inverse powers square inverse-of block-of changes-below patch fill quot first second keep in-range two-equal marks-cause alike of-kind chip-kind card-kind card-changed reduced fits-by mended-by fits-on block-on answer-test row-test
-passes = tt
+two-chips : ChipKind [] ones-set zeros → ⊥
+two-chips (fs, l, h) = go fs l (in-fs 0 (h 0 (omega arith))) (in-fs 1 (h 1 (omega arith)))
+  where
+    in-fs : (p : ℕ) → (_≡_ {A = ℕ} 1 0) ⊎ (⊥ ⊎ In p fs) → In p fs
+    in-fs p (inl e) = absurd (omega arith)
+    in-fs p (inr (inl i)) = absurd i
+    in-fs p (inr (inr i)) = i
+
+    go : (fs : List ℕ) → length fs ≤ 1 → In 0 fs → In 1 fs → ⊥
+    go [] l i k = i
+    go (f ∷ []) l (inl e) (inl d) = omega arith
+    go (f ∷ []) l (inl e) (inr k) = k
+    go (f ∷ []) l (inr i) k = i
+    go (f ∷ g ∷ fs) l i k = omega arith
+
+infixr 2 _also_
+_also_ : {P Q : Type 0} → P → Q → P × Q
+p also q = (p, q)
 
 -- THE TABLE
 pub starred : StarredBlocks
-starred = every-row starred-blocks (subst (λ (ls : List ℕ). T (every-test ls starred-blocks)) (sym in-figures) passes)
+unfolding figures sum _⊕_ polynomial-product remainder product squared fits eliminate.fits keep changes tally marks-cause in-range two-equal
+starred =
+    holds refl refl tt (λ bb few.
+    one-answer None [] zeros clean zeros refl (λ e. omega arith) (clean-reads built-in built-in-set [] few zeros None tt bb (zero-stored built-in .lawful)))
+    also holds refl refl tt (λ bb few. chips-row _ bb [] few (20 ∷ []) (omega arith) tt 20 refl _ tt)
+    also holds refl refl tt (λ bb few. several-row _ bb [] few 0 (omega arith) tt 1 (omega arith) 0 (omega arith) (λ e. omega arith) refl refl _ tt)
+    also holds refl refl tt (λ bb few. card-row _ bb [] few 0 (omega arith) (zero-stored built-in) [] (omega arith) tt 0 (omega arith) refl refl _ tt)
+    also holds refl refl tt (λ bb few.
+    card-row _ bb [] few 1 (omega arith) (lawful-by (zeros-but six) refl tt tt refl refl) [] (omega arith) tt 9 (omega arith) refl refl _ tt)
+    also holds refl refl tt (λ bb few. no-member None [] _ (λ y s. omega (arith, only-card _ bb [] few 5 tt y s .0)))
+    also holds refl refl tt (λ bb few. search-row _ bb [] few 0 (omega arith) tt tt two-chips _ tt)
+    also holds refl refl tt (λ bb few. chips-row _ bb (0 ∷ []) few (9 ∷ []) (omega arith) tt 0 refl _ tt)
+    also holds refl refl tt (λ bb few.
+    several-row _ bb (0 ∷ 9 ∷ []) few 2 (omega arith) tt 3 (omega arith) 20 (omega arith) (λ e. omega arith) refl refl _ tt)
+    also holds refl refl tt (λ bb few. card-row _ bb [] few 0 (omega arith) (zero-stored built-in) (9 ∷ []) (omega arith) tt 0 (omega arith) refl refl _ tt)
+    also tt
+
+pub beside : BesideCard
+unfolding figures sum _⊕_ polynomial-product remainder product squared fits eliminate.fits keep marks-cause in-range two-equal
+beside = holds refl refl tt (λ bb few.
+    no-member (Card 0) (1 ∷ []) _ (λ y s. reached-fits _ bb (1 ∷ []) few 0 (omega arith) y (covered-beside 0 _ y built-in (1 ∷ []) s .2)))

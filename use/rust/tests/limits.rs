@@ -195,6 +195,20 @@ fn placing_and_lifting() {
 }
 
 #[test]
+fn numbers_that_no_byte_holds() {
+    for asked in [256, 256 + 4, 300, 0x1_0000, 0x1_002C, 0x8000_0000, u32::MAX] {
+        for before in [FRESH, [4, 1, 44, 255], [255, 2, 0, 4]] {
+            let mut marks = before;
+            let refused = Err(Refusal::MarkRange);
+            assert_eq!(livomashen::place_chip(&mut marks, asked), refused);
+            assert_eq!(livomashen::lift_chip(&mut marks, asked), refused);
+            assert_eq!(livomashen::place_card(&mut marks, asked), refused);
+            assert_eq!(marks, before, "asked for {asked}");
+        }
+    }
+}
+
+#[test]
 fn the_record_is_a_part_of_the_output() {
     let mut out = [0; BLOCK];
     let said = livomashen::read(&[0; BLOCK], &FRESH, &mut out);

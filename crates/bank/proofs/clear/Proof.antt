@@ -1,6 +1,7 @@
--- `bank::clear` meets its contract.
-use mathlib.Core.Path.{sym, _∙_}
-use Rattle.bank.proofs.Done.{clear-is, clear-refused, clear-done}
+-- A bank of a right length is made zeros, whatever it held.
+use mathlib.Core.Path.{_∙_}
+use Rattle.bank.proofs.Causes.{clear-is}
+use Rattle.bank.proofs.Done.{clear-refused, clear-done}
 use borrow.Author.Needs.{needs}
 use Rattle.bank.proofs.clear.Statement.{statement}
 use Rattle.bank.proofs.clear.Tie as tie
@@ -18,10 +19,7 @@ same-length : tie.Need-same-length
 same-length c = search needs
 
 returns-2 : tie.Need-returns-2
-returns-2 c =
-    let z = c .before .before in
-    let e = z .before .before in
-    clear-done _ _ (clear-is _ _ (e .before .size-cause .ensures) ∙ e .if1 .left) (z .zero .ensures)
+returns-2 c = clear-done _ _ (clear-is _ _ (c .before .before .before .before .before .size-cause .ensures) ∙ c .before .before .before .before .if1 .left) (c .before .before .zero .ensures)
 
 pub clear-spec : {M : Type 1} → statement M
 clear-spec = tie.close (tie.spec size-cause-requires returns zero-requires same-length returns-2)

@@ -1,88 +1,81 @@
--- `bank::get` meets its contract.
-use mathlib.Core.Path.{_≡_, sym, _∙_}
+-- What a reading of block k says is what get says of the bank, which is not touched.
+use mathlib.Core.Path.{_≡_, refl, sym, ap, _∙_}
+use native.Mathlib.Omega.{arith}
 use lib.ListN.{length}
-use Rattle.marks.proofs.Laws.{cause-lawful}
-use Rattle.bank.proofs.Causes.{get-2, get-is, by-first, by-second, within}
+use Rattle.marks.specs.Marks.{marks-cause}
+use Rattle.block.proofs.Causes.{read-marks}
+use Rattle.bank.proofs.Causes.{get-2, get-is, patrol-is, by-first, by-second, within}
 use Rattle.bank.proofs.Done.{part-length, part-is, get-refused, get-done}
 use borrow.Author.Needs.{needs}
-use native.Mathlib.Omega.{arith}
 use Rattle.bank.proofs.get.Statement.{statement}
 use Rattle.bank.proofs.get.Tie as tie
 
 returns : tie.Need-returns
 returns c = get-refused _ _ _ _ 2 (get-2 _ _ _ _ (c .if1 .taken)) (λ z. omega arith)
 
-bank-cause-requires : tie.Need-bank-cause-requires
-bank-cause-requires c κs = search needs
+place-cause-requires : tie.Need-place-cause-requires
+place-cause-requires c κs = search needs
 
 returns-2 : tie.Need-returns-2
-returns-2 c = get-refused _ _ _ _ _ (get-is _ _ _ _ (c .before .before .if1 .left) ∙ by-first _ _ _ (sym (c .before .bank-cause .ensures)) (c .if2 .taken)) (c .if2 .taken)
+returns-2 c = get-refused _ _ _ _ _ (get-is _ _ _ _ (c .before .before .if1 .left) ∙ patrol-is _ _ _ ∙ by-first _ _ _ (c .before .place-cause .ensures) (c .if2 .taken)) (c .if2 .taken)
 
-marks-cause-requires : tie.Need-marks-cause-requires
-marks-cause-requires c κs = search needs
-
-returns-3 : tie.Need-returns-3
-returns-3 c =
-    let b = c .before .before .before in
-    get-refused _ _ _ _ _ (get-is _ _ _ _ (b .before .if1 .left) ∙ by-second _ _ (sym (b .bank-cause .ensures) ∙ c .before .before .if2 .left) ∙ sym (c .before .marks-cause .ensures)) (c .if3 .taken)
-
-mul-at : tie.Need-mul-at
-mul-at c = omega (arith, within (length (c .before .before .before .before .before .before .before .args .bank .now)) (c .before .before .before .before .before .before .before .args .k) (sym (c .before .before .before .bank-cause .ensures) ∙ c .before .before .if2 .left))
+mul-from : tie.Need-mul-from
+mul-from c =
+    let at = c .before in
+    let s = at .before .before .before .before in
+    omega (arith, within (length (s .args .bank .now)) (s .args .k) (sym (at .place-cause .ensures) ∙ c .if2 .left))
 
 add-end : tie.Need-add-end
-add-end c = omega (arith, within (length (c .before .before .before .before .before .before .before .args .bank .now)) (c .before .before .before .before .before .before .before .args .k) (sym (c .before .before .before .bank-cause .ensures) ∙ c .before .before .if2 .left))
+add-end c =
+    let at = c .before in
+    let s = at .before .before .before .before in
+    omega (arith, within (length (s .args .bank .now)) (s .args .k) (sym (at .place-cause .ensures) ∙ c .if2 .left))
 
-sub-block : tie.Need-sub-block
-sub-block c = omega (arith, within (length (c .before .before .before .before .before .before .before .args .bank .now)) (c .before .before .before .before .before .before .before .args .k) (sym (c .before .before .before .bank-cause .ensures) ∙ c .before .before .if2 .left))
+sub-read : tie.Need-sub-read
+sub-read c = search needs
 
-part-block-start : tie.Need-part-block-start
-part-block-start c = omega (arith, within (length (c .before .before .before .before .before .before .before .args .bank .now)) (c .before .before .before .before .before .before .before .args .k) (sym (c .before .before .before .bank-cause .ensures) ∙ c .before .before .if2 .left))
+part-read-start : tie.Need-part-read-start
+part-read-start c = search needs
 
-part-block-end : tie.Need-part-block-end
-part-block-end c = omega (arith, within (length (c .before .before .before .before .before .before .before .args .bank .now)) (c .before .before .before .before .before .before .before .args .k) (sym (c .before .before .before .bank-cause .ensures) ∙ c .before .before .if2 .left))
+part-read-end : tie.Need-part-read-end
+part-read-end c =
+    let at = c .before in
+    let s = at .before .before .before .before in
+    omega (arith, within (length (s .args .bank .now)) (s .args .k) (sym (at .place-cause .ensures) ∙ c .if2 .left))
 
-search-requires : tie.Need-search-requires
-search-requires c κs =
-    let e = c .before in
-    let b = e .before .before .before in
-    let s = b .before .before .before .before in
-    (part-length (s .args .bank .now) (s .args .k) (within _ _ (sym (b .bank-cause .ensures) ∙ e .before .before .if2 .left) .0), cause-lawful _ (sym (e .before .marks-cause .ensures) ∙ e .if3 .left))
-
-deliver-requires : tie.Need-deliver-requires
-deliver-requires c κs =
-    let e = c .before .before .before in
-    let b = e .before .before .before in
-    let s = b .before .before .before .before in
-    (part-length (s .args .bank .now) (s .args .k) (within _ _ (sym (b .bank-cause .ensures) ∙ e .before .before .if2 .left) .0), b .before .if1 .left)
+read-requires : tie.Need-read-requires
+read-requires c κs = search needs
 
 same-length : tie.Need-same-length
 same-length c = search needs
 
-returns-4 : tie.Need-returns-4
-returns-4 c =
-    let d = c .before .before in
-    let a = d .before .before in
-    let e = a .before .before in
-    let b = e .before .before .before in
-    let s = b .before .before .before .before in
-    get-done _ _ _ _ _ _ _ _ (get-is _ _ _ _ (b .before .if1 .left) ∙ by-second _ _ (sym (b .bank-cause .ensures) ∙ e .before .before .if2 .left) ∙ sym (e .before .marks-cause .ensures) ∙ e .if3 .left)
-    (part-is (s .args .bank .now) (s .args .k)) (a .search .ensures) (d .deliver .ensures)
+returns-3 : tie.Need-returns-3
+returns-3 c =
+    let call = c .before .before in
+    let at = call .before .before .before in
+    let s = at .before .before .before .before .before in
+    let bank = s .args .bank .now in
+    let k = s .args .k in
+    let m = s .args .m in
+    let out = at .before .before .if1 .left in
+    let e = sym (at .before .place-cause .ensures) ∙ at .if2 .left in
+    let long = part-length bank k (within (length bank) k e .0) in
+    get-done bank k _ (part-is bank k) m _ _ _ _
+    (get-is _ _ m _ out ∙ patrol-is _ _ m ∙ by-second _ _ (marks-cause m) (at .before .place-cause .ensures) (at .if2 .left) ∙ sym (read-marks _ m _ long out))
+    (call .read .ensures)
 
 pub get-spec : {M : Type 1} → statement M
 get-spec =
     tie.close
     (tie.spec
     returns
-    bank-cause-requires
+    place-cause-requires
     returns-2
-    marks-cause-requires
-    returns-3
-    mul-at
+    mul-from
     add-end
-    sub-block
-    part-block-start
-    part-block-end
-    search-requires
-    deliver-requires
+    sub-read
+    part-read-start
+    part-read-end
+    read-requires
     same-length
-    returns-4)
+    returns-3)

@@ -1,96 +1,75 @@
--- `bank::patrol` meets its contract.
-use mathlib.Core.Path.{_≡_, sym, _∙_}
+-- What mending block k says is what patrol says of the bank.
+use mathlib.Core.Path.{_≡_, refl, sym, ap, _∙_}
+use native.Mathlib.Omega.{arith}
 use lib.ListN.{length}
-use Rattle.marks.proofs.Laws.{cause-lawful}
+use Rattle.marks.specs.Marks.{marks-cause}
+use Rattle.block.proofs.Causes.{mend-marks}
 use Rattle.bank.proofs.Causes.{patrol-is, by-first, by-second, within}
 use Rattle.bank.proofs.Done.{part-length, part-is, back-is, patrol-refused, patrol-done}
 use borrow.Author.Needs.{needs}
-use native.Mathlib.Omega.{arith}
 use Rattle.bank.proofs.patrol.Statement.{statement}
 use Rattle.bank.proofs.patrol.Tie as tie
 
-bank-cause-requires : tie.Need-bank-cause-requires
-bank-cause-requires c κs = search needs
+place-cause-requires : tie.Need-place-cause-requires
+place-cause-requires c κs = search needs
 
 returns : tie.Need-returns
-returns c = patrol-refused _ _ _ _ (patrol-is _ _ _ ∙ by-first _ _ _ (sym (c .before .bank-cause .ensures)) (c .if1 .taken)) (c .if1 .taken)
+returns c = patrol-refused _ _ _ _ (patrol-is _ _ _ ∙ by-first _ _ _ (c .before .place-cause .ensures) (c .if1 .taken)) (c .if1 .taken)
 
-marks-cause-requires : tie.Need-marks-cause-requires
-marks-cause-requires c κs = search needs
-
-returns-2 : tie.Need-returns-2
-returns-2 c =
-    let b = c .before .before .before in
-    patrol-refused _ _ _ _ (patrol-is _ _ _ ∙ by-second _ _ (sym (b .bank-cause .ensures) ∙ c .before .before .if1 .left) ∙ sym (c .before .marks-cause .ensures)) (c .if2 .taken)
-
-mul-at : tie.Need-mul-at
-mul-at c = omega (arith, within (length (c .before .before .before .before .before .args .bank .now)) (c .before .before .before .before .before .args .k) (sym (c .before .before .before .bank-cause .ensures) ∙ c .before .before .if1 .left))
+mul-start : tie.Need-mul-start
+mul-start c =
+    let at = c .before in
+    let s = at .before .before in
+    omega (arith, within (length (s .args .bank .now)) (s .args .k) (sym (at .place-cause .ensures) ∙ c .if1 .left))
 
 add-end : tie.Need-add-end
-add-end c = omega (arith, within (length (c .before .before .before .before .before .args .bank .now)) (c .before .before .before .before .before .args .k) (sym (c .before .before .before .bank-cause .ensures) ∙ c .before .before .if1 .left))
+add-end c =
+    let at = c .before in
+    let s = at .before .before in
+    omega (arith, within (length (s .args .bank .now)) (s .args .k) (sym (at .place-cause .ensures) ∙ c .if1 .left))
 
-sub-search : tie.Need-sub-search
-sub-search c = omega (arith, within (length (c .before .before .before .before .before .args .bank .now)) (c .before .before .before .before .before .args .k) (sym (c .before .before .before .bank-cause .ensures) ∙ c .before .before .if1 .left))
+sub-mend : tie.Need-sub-mend
+sub-mend c = search needs
 
-part-search-start : tie.Need-part-search-start
-part-search-start c = omega (arith, within (length (c .before .before .before .before .before .before .args .bank .now)) (c .before .before .before .before .before .before .args .k) (sym (c .before .before .before .before .bank-cause .ensures) ∙ c .before .before .before .if1 .left))
+part-mend-start : tie.Need-part-mend-start
+part-mend-start c = search needs
 
-part-search-end : tie.Need-part-search-end
-part-search-end c = omega (arith, within (length (c .before .before .before .before .before .before .args .bank .now)) (c .before .before .before .before .before .before .args .k) (sym (c .before .before .before .before .bank-cause .ensures) ∙ c .before .before .before .if1 .left))
+part-mend-end : tie.Need-part-mend-end
+part-mend-end c =
+    let at = c .before in
+    let s = at .before .before in
+    omega (arith, within (length (s .args .bank .now)) (s .args .k) (sym (at .place-cause .ensures) ∙ c .if1 .left))
 
-search-requires : tie.Need-search-requires
-search-requires c κs =
-    let e = c .before .before in
-    let b = e .before .before .before in
-    let s = b .before .before in
-    (part-length (s .args .bank .now) (s .args .k) (within _ _ (sym (b .bank-cause .ensures) ∙ e .before .before .if1 .left) .0), cause-lawful _ (sym (e .before .marks-cause .ensures) ∙ e .if2 .left))
-
-sub-correct : tie.Need-sub-correct
-sub-correct c = omega (arith, within (length (c .before .before .before .before .before .before .before .before .args .bank .now)) (c .before .before .before .before .before .before .before .before .args .k) (sym (c .before .before .before .before .before .before .bank-cause .ensures) ∙ c .before .before .before .before .before .if1 .left))
-
-part-correct-start : tie.Need-part-correct-start
-part-correct-start c = omega (arith, within (length (c .before .before .before .before .before .before .before .before .args .bank .now)) (c .before .before .before .before .before .before .before .before .args .k) (sym (c .before .before .before .before .before .before .bank-cause .ensures) ∙ c .before .before .before .before .before .if1 .left))
-
-part-correct-end : tie.Need-part-correct-end
-part-correct-end c = omega (arith, within (length (c .before .before .before .before .before .before .before .before .args .bank .now)) (c .before .before .before .before .before .before .before .before .args .k) (sym (c .before .before .before .before .before .before .bank-cause .ensures) ∙ c .before .before .before .before .before .if1 .left))
-
-correct-requires : tie.Need-correct-requires
-correct-requires c κs =
-    let e = c .before .before .before .before in
-    let b = e .before .before .before in
-    let s = b .before .before in
-    part-length (s .args .bank .now) (s .args .k) (within _ _ (sym (b .bank-cause .ensures) ∙ e .before .before .if1 .left) .0)
+mend-requires : tie.Need-mend-requires
+mend-requires c κs = search needs
 
 same-length : tie.Need-same-length
 same-length c = search needs
 
-returns-3 : tie.Need-returns-3
-returns-3 c =
-    let d = c .before .before in
-    let a = d .before .before in
-    let e = a .before .before .before in
-    let b = e .before .before .before in
-    let s = b .before .before in
-    patrol-done _ _ _ _ _ _ _ _ (patrol-is _ _ _ ∙ by-second _ _ (sym (b .bank-cause .ensures) ∙ e .before .before .if1 .left) ∙ sym (e .before .marks-cause .ensures) ∙ e .if2 .left)
-    (part-is (s .args .bank .now) (s .args .k)) (a .search .ensures) (d .correct .ensures) (back-is (s .args .bank .now) (s .args .k) (d .correct .last .0))
+returns-2 : tie.Need-returns-2
+returns-2 c =
+    let call = c .before .before in
+    let at = call .before .before in
+    let s = at .before .before .before in
+    let bank = s .args .bank .now in
+    let k = s .args .k in
+    let m = s .args .m in
+    let e = sym (at .before .place-cause .ensures) ∙ at .if1 .left in
+    patrol-done bank k _ (part-is bank k) m _ _ _
+    (patrol-is _ _ m ∙ by-second _ _ (marks-cause m) (at .before .place-cause .ensures) (at .if1 .left) ∙ sym (mend-marks _ m (part-length bank k (within (length bank) k e .0))))
+    (call .mend .ensures) (back-is bank k (call .mend .last .0))
 
 pub patrol-spec : {M : Type 1} → statement M
 patrol-spec =
     tie.close
     (tie.spec
-    bank-cause-requires
+    place-cause-requires
     returns
-    marks-cause-requires
-    returns-2
-    mul-at
+    mul-start
     add-end
-    sub-search
-    part-search-start
-    part-search-end
-    search-requires
-    sub-correct
-    part-correct-start
-    part-correct-end
-    correct-requires
+    sub-mend
+    part-mend-start
+    part-mend-end
+    mend-requires
     same-length
-    returns-3)
+    returns-2)

@@ -1,61 +1,72 @@
--- `bank::put` meets its contract.
-use mathlib.Core.Path.{sym, _∙_}
-use lib.ListN.{length, length-take, length-drop}
-use Rattle.bank.proofs.Causes.{put-3, put-bank, within}
-use Rattle.bank.proofs.Done.{part-length, back-is, put-refused, put-done, stored}
-use borrow.Author.Needs.{needs}
+-- A record that fits the only lawful block that begins with it: what storing says of block k is what put says of the bank.
+use mathlib.Core.Path.{_≡_, refl, sym, ap, _∙_}
 use native.Mathlib.Omega.{arith}
+use lib.ListN.{length}
+use Rattle.bank.proofs.Causes.{put-3, put-is, store-none, within}
+use Rattle.bank.proofs.Done.{part-length, part-is, back-is, put-refused, put-done}
+use borrow.Author.Needs.{needs}
 use Rattle.bank.proofs.put.Statement.{statement}
 use Rattle.bank.proofs.put.Tie as tie
 
 returns : tie.Need-returns
 returns c = put-refused _ _ _ 3 (put-3 _ _ _ (c .if1 .taken)) (λ z. omega arith)
 
-bank-cause-requires : tie.Need-bank-cause-requires
-bank-cause-requires c κs = search needs
+place-cause-requires : tie.Need-place-cause-requires
+place-cause-requires c κs = search needs
 
 returns-2 : tie.Need-returns-2
-returns-2 c = put-refused _ _ _ _ (put-bank _ _ _ (c .before .before .if1 .left) ∙ sym (c .before .bank-cause .ensures)) (c .if2 .taken)
+returns-2 c = put-refused _ _ _ _ (put-is _ _ _ (c .before .before .if1 .left) ∙ sym (c .before .place-cause .ensures)) (c .if2 .taken)
 
-mul-at : tie.Need-mul-at
-mul-at c = omega (arith, within (length (c .before .before .before .before .before .args .bank .now)) (c .before .before .before .before .before .args .k) (sym (c .before .bank-cause .ensures) ∙ c .if2 .left))
+mul-to : tie.Need-mul-to
+mul-to c =
+    let at = c .before in
+    let s = at .before .before .before .before in
+    omega (arith, within (length (s .args .bank .now)) (s .args .k) (sym (at .place-cause .ensures) ∙ c .if2 .left))
 
 add-end : tie.Need-add-end
-add-end c = omega (arith, within (length (c .before .before .before .before .before .args .bank .now)) (c .before .before .before .before .before .args .k) (sym (c .before .bank-cause .ensures) ∙ c .if2 .left))
+add-end c =
+    let at = c .before in
+    let s = at .before .before .before .before in
+    omega (arith, within (length (s .args .bank .now)) (s .args .k) (sym (at .place-cause .ensures) ∙ c .if2 .left))
 
 sub-store : tie.Need-sub-store
-sub-store c = omega (arith, within (length (c .before .before .before .before .before .args .bank .now)) (c .before .before .before .before .before .args .k) (sym (c .before .bank-cause .ensures) ∙ c .if2 .left))
+sub-store c = search needs
 
 part-store-start : tie.Need-part-store-start
-part-store-start c = omega (arith, within (length (c .before .before .before .before .before .args .bank .now)) (c .before .before .before .before .before .args .k) (sym (c .before .bank-cause .ensures) ∙ c .if2 .left))
+part-store-start c = search needs
 
 part-store-end : tie.Need-part-store-end
-part-store-end c = omega (arith, within (length (c .before .before .before .before .before .args .bank .now)) (c .before .before .before .before .before .args .k) (sym (c .before .bank-cause .ensures) ∙ c .if2 .left))
+part-store-end c =
+    let at = c .before in
+    let s = at .before .before .before .before in
+    omega (arith, within (length (s .args .bank .now)) (s .args .k) (sym (at .place-cause .ensures) ∙ c .if2 .left))
 
 store-requires : tie.Need-store-requires
-store-requires c κs = tt
+store-requires c κs = search needs
 
 same-length : tie.Need-same-length
 same-length c = search needs
 
 returns-3 : tie.Need-returns-3
 returns-3 c =
-    let t = c .before .before in
-    let e = t .before .before in
-    let s = e .before .before .before .before .before in
-    let z = sym (e .before .bank-cause .ensures) ∙ e .if2 .left in
-    let l = e .before .before .if1 .left in
-    let v = stored _ _ _ _ (t .store .ensures) (part-length (s .args .bank .now) (s .args .k) (within _ _ z .0)) l in
-    put-done _ _ _ _ _ _ (put-bank _ _ _ l ∙ z) (v .0) (v .1) (back-is (s .args .bank .now) (s .args .k) (t .store .last .1 .0))
+    let call = c .before .before in
+    let at = call .before .before in
+    let s = at .before .before .before .before .before in
+    let bank = s .args .bank .now in
+    let k = s .args .k in
+    let e = sym (at .before .place-cause .ensures) ∙ at .if2 .left in
+    let rec = at .before .before .if1 .left in
+    put-done bank k _ (part-is bank k) _ _ _ _ _ (put-is _ _ _ rec ∙ e ∙ sym (store-none _ _ (part-length bank k (within (length bank) k e .0)) rec)) (call .store .ensures)
+    (back-is bank k (call .store .last .1 .0))
 
 pub put-spec : {M : Type 1} → statement M
 put-spec =
     tie.close
     (tie.spec
     returns
-    bank-cause-requires
+    place-cause-requires
     returns-2
-    mul-at
+    mul-to
     add-end
     sub-store
     part-store-start

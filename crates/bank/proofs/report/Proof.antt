@@ -1,7 +1,7 @@
--- `bank::report` meets its contract.
-use mathlib.Core.Path.{sym, _∙_}
-use Rattle.marks.proofs.Laws.{cause-lawful}
-use Rattle.bank.proofs.Causes.{report-is, by-first, by-second, small}
+-- The five totals that the loop has counted are those of the bank.
+use mathlib.Core.Path.{_≡_, refl, sym, _∙_}
+use native.Mathlib.Omega.{arith}
+use Rattle.bank.proofs.Causes.{report-is, by-first, by-second, sized}
 use Rattle.bank.proofs.Done.{report-refused, report-done}
 use borrow.Author.Needs.{needs}
 use Rattle.bank.proofs.report.Statement.{statement}
@@ -11,26 +11,43 @@ size-cause-requires : tie.Need-size-cause-requires
 size-cause-requires c κs = search needs
 
 returns : tie.Need-returns
-returns c = report-refused _ _ _ (report-is _ _ ∙ by-first _ _ _ (sym (c .before .size-cause .ensures)) (c .if1 .taken)) (c .if1 .taken)
+returns c = report-refused _ _ _ (report-is _ _ ∙ by-first _ _ _ (c .before .size-cause .ensures) (c .if1 .taken)) (c .if1 .taken)
 
 marks-cause-requires : tie.Need-marks-cause-requires
 marks-cause-requires c κs = search needs
 
 returns-2 : tie.Need-returns-2
 returns-2 c =
-    let s = c .before .before in
-    report-refused _ _ _ (report-is _ _ ∙ by-second _ _ (sym (s .before .size-cause .ensures) ∙ s .if1 .left) ∙ sym (c .before .marks-cause .ensures)) (c .if2 .taken)
+    let size = c .before .before in
+    report-refused _ _ _ (report-is _ _ ∙ by-second _ _ _ (size .before .size-cause .ensures) (size .if1 .left) ∙ sym (c .before .marks-cause .ensures)) (c .if2 .taken)
 
 count-blocks-requires : tie.Need-count-blocks-requires
 count-blocks-requires c κs =
-    let s = c .before .before in
-    (small _ (sym (s .before .size-cause .ensures) ∙ s .if1 .left) .0, cause-lawful _ (sym (c .before .marks-cause .ensures) ∙ c .if2 .left))
+    let size = c .before .before in
+    (sized _ (sym (size .before .size-cause .ensures) ∙ size .if1 .left) .1, sym (c .before .marks-cause .ensures) ∙ c .if2 .left)
+
+array-read-t11 : tie.Need-array-read-t11
+array-read-t11 c = search needs
+
+array-read-t14 : tie.Need-array-read-t14
+array-read-t14 c = search needs
+
+array-read-t17 : tie.Need-array-read-t17
+array-read-t17 c = search needs
+
+array-read-t20 : tie.Need-array-read-t20
+array-read-t20 c = search needs
+
+array-read-t23 : tie.Need-array-read-t23
+array-read-t23 c = search needs
 
 returns-3 : tie.Need-returns-3
 returns-3 c =
-    let m = c .before in
-    let s = m .before .before in
-    report-done _ _ _ (report-is _ _ ∙ by-second _ _ (sym (s .before .size-cause .ensures) ∙ s .if1 .left) ∙ sym (m .before .marks-cause .ensures) ∙ m .if2 .left) (c .count-blocks .ensures)
+    let marked = c .before in
+    let size = marked .before .before in
+    report-done _ _ (c .count-blocks .result) _
+    (report-is _ _ ∙ by-second _ _ _ (size .before .size-cause .ensures) (size .if1 .left) ∙ sym (marked .before .marks-cause .ensures) ∙ marked .if2 .left)
+    (c .count-blocks .ensures .0) refl
 
 pub report-spec : {M : Type 1} → statement M
 report-spec =
@@ -41,4 +58,9 @@ report-spec =
     marks-cause-requires
     returns-2
     count-blocks-requires
+    array-read-t11
+    array-read-t14
+    array-read-t17
+    array-read-t20
+    array-read-t23
     returns-3)

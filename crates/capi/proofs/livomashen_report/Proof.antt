@@ -1,47 +1,52 @@
--- `capi::livomashen_report` meets its contract.
-use mathlib.Core.Path.{refl, sym}
-use Rattle.bank.proofs.Done.{at-most}
+-- No total is above 1,024, so that five of 11 bits fit; the code of the totals, or the number, is that of the answer.
+use mathlib.Core.Path.{refl, subst}
+use mathlib.Core.List.{[], _∷_}
+use native.Mathlib.Omega.{arith}
 use borrow.Author.Needs.{needs}
+use Rattle.bank.specs.Calls.{report-answer}
+use Rattle.bank.specs.declared.Reported.{Reported}
+use Rattle.capi.proofs.Gives.{Reports, report-gives, at-most-1024}
 use Rattle.capi.proofs.livomashen_report.Statement.{statement}
 use Rattle.capi.proofs.livomashen_report.Tie as tie
 
-marks-in-requires : tie.Need-marks-in-requires
-marks-in-requires c κs = search needs
-
-report-requires : tie.Need-report-requires
-report-requires c κs = search needs
-
-enum-known-t : tie.Need-enum-known-t
-enum-known-t c = search needs
-
-totals-code-requires : tie.Need-totals-code-requires
-totals-code-requires c κs = at-most _ _ _ _ (c .before .before .before .report .ensures) (c .before .t .given .1)
-
-enum-known-n : tie.Need-enum-known-n
-enum-known-n c = search needs
-
-cast-result : tie.Need-cast-result
-cast-result c = search needs
-
-returns : tie.Need-returns
-returns c =
-    let r = c .before .before .before .before in
-    (r .report .result, rw (sym (r .before .marks-in .ensures)) (r .report .ensures), rw (c .before .before .t .given .1) (c .totals-code .ensures))
-
-returns-2 : tie.Need-returns-2
-returns-2 c =
+of-totals-requires : tie.Need-of-totals-requires
+of-totals-requires c κs =
     let r = c .before .before .before in
-    (r .report .result, rw (sym (r .before .marks-in .ensures)) (r .report .ensures), rw (c .before .n .given .1) refl)
+    at-most-1024 (subst (λ (x : Reported). Reports (4 ∷ 6 ∷ 7 ∷ []) (report-answer x)) (c .before .t .given .1) (report-gives _ _ _ _ (r .report .ensures)))
+
+counted : tie.Need-returns
+counted c =
+    let t = c .before .before in
+    let r = t .before .before in
+    let f = r .before in
+    record {
+      marks = f .from-slice .result;
+      in-bytes = f .from-slice .ensures .0;
+      kept = refl;
+      coded = record { answer = report-answer (r .report .result); says = r .report .ensures; coded = rw (t .t .given .1) (c .of-totals .ensures) };
+    }
+
+refused : tie.Need-returns-2
+refused c =
+    let n = c .before in
+    let r = n .before .before in
+    let f = r .before in
+    record {
+      marks = f .from-slice .result;
+      in-bytes = f .from-slice .ensures .0;
+      kept = refl;
+      coded = record { answer = report-answer (r .report .result); says = r .report .ensures; coded = rw (n .n .given .1) (omega arith) };
+    }
 
 pub livomashen-report-spec : {M : Type 1} → statement M
 livomashen-report-spec =
     tie.close
     (tie.spec
-    marks-in-requires
-    report-requires
-    enum-known-t
-    totals-code-requires
-    enum-known-n
-    cast-result
-    returns
-    returns-2)
+    (λ c κs. search needs)
+    (λ c κs. search needs)
+    (λ c. search needs)
+    of-totals-requires
+    (λ c. search needs)
+    (λ c. search needs)
+    counted
+    refused)

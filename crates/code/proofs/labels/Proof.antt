@@ -1,4 +1,4 @@
--- `code::labels` meets its contract: the table is the definition's list.
+-- The table is the definition's list, in figures.
 use mathlib.Core.Path.{sym}
 use Rattle.code.proofs.BuiltIn.{figures, in-figures}
 use Rattle.code.proofs.labels.Statement.{statement}

@@ -1,4 +1,4 @@
--- `field::add` meets its contract.
+-- A byte's exclusive or is ⊕ by definition.
 use mathlib.Core.Path.{refl}
 use Rattle.field.specs.Field.{_⊕_}
 use Rattle.field.proofs.add.Statement.{statement}

@@ -1,4 +1,4 @@
--- `field::invert` meets its contract: each entry of the table is the inverse of its place.
+-- Each entry of the table is the inverse of its place, by the test of Inverses.antt.
 use mathlib.Core.Path.{ap, _∙_}
 use Prim.Native.Nat.{ℕ}
 use native.Mathlib.Omega.{arith}

@@ -1,4 +1,4 @@
--- `field::mul` meets its contract. Invariant: the result so far, and what the rounds left will add, make the product.
+-- Invariant: the result so far, and what the rounds left will add, make the product.
 use mathlib.Core.Path.{_≡_, sym, _∙_, subst}
 use Prim.Native.Nat.{ℕ, _<_, _^_}
 use mathlib.Core.Logic.{⊎-elim}
@@ -31,17 +31,18 @@ loop-less c = omega arith
 loop-again : tie.Need-loop-again Inv-loop μ-loop
 unfolding _⊕_
 loop-again c =
-    let l = c .before .before .before in
-    let x = c .times-x .ensures ∙ two-mul (l .loop .x) (l .loop .inv .0) in (
-      subst (λ (z : ℕ). z < 2 ^ 8) (sym (c .times-x .ensures)) (field .below 2 (l .loop .x)),
+    let l = c .before .before .before .loop in
+    let more = c .before .before .loop-test .taken in
+    let x = c .times-x .ensures ∙ two-mul (l .x) (l .inv .0) in (
+      subst (λ (z : ℕ). z < 2 ^ 8) (sym (c .times-x .ensures)) (field .below 2 (l .x)),
       ⊎-elim
-          (λ w. round-set 7 0x1D (l .loop .n) (l .loop .x) (l .loop .y) (l .loop .r) (c .before .if1 .r) (c .times-x .result) (c .before .before .loop-test .taken) (w .0 .taken) (w .1) x ∙ l .loop .inv .1)
-          (λ w. round-clear 7 0x1D (l .loop .n) (l .loop .x) (l .loop .y) (l .loop .r) (c .before .if1 .r) (c .times-x .result) (c .before .before .loop-test .taken) (w .0 .left) (w .1) x ∙ l .loop .inv .1)
+          (λ w. round-set 7 0x1D (l .n) (l .x) (l .y) (l .r) (c .before .if1 .r) (c .times-x .result) more (w .0 .taken) (w .1) x ∙ l .inv .1)
+          (λ w. round-clear 7 0x1D (l .n) (l .x) (l .y) (l .r) (c .before .if1 .r) (c .times-x .result) more (w .0 .left) (w .1) x ∙ l .inv .1)
           (c .before .if1 .came),
     )
 
 returns : tie.Need-returns Inv-loop μ-loop
-returns c = rounds-end 7 0x1D (c .before .loop .n) (c .before .loop .x) (c .before .loop .y) (c .before .loop .r) (c .loop-test .left) ∙ c .before .loop .inv .1
+returns c = let l = c .before .loop in rounds-end 7 0x1D (l .n) (l .x) (l .y) (l .r) (c .loop-test .left) ∙ l .inv .1
 
 pub mul-spec : {M : Type 1} → statement M
 mul-spec = tie.close (tie.spec Inv-loop μ-loop loop-holds times-x-requires sub-n loop-less loop-again returns)

@@ -1,5 +1,5 @@
--- `field::times_x` meets its contract.
-use mathlib.Core.Path.{_≡_, sym, _∙_}
+-- The top bit, tested by a mask, decides whether the modulus is taken away.
+use mathlib.Core.Path.{sym, _∙_}
 use native.Mathlib.Omega.{arith}
 use Rattle.field.specs.Field.{_⊕_}
 use Rattle.field.proofs.Gf256.{two-mul}

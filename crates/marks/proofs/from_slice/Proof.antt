@@ -1,39 +1,27 @@
--- `marks::from_slice` meets its contract.
-use mathlib.Core.Path.{_∙_}
-use Rattle.marks.proofs.Laws.{first-four}
+-- The length decides, as in the definition; of four bytes the record is read place by place.
+use mathlib.Core.Path.{refl}
+use borrow.Author.Tests.{eq-eqb, ne-eqb}
+use Rattle.marks.specs.Marks.{marks-in, of-bytes}
 use borrow.Author.Needs.{needs}
 use Rattle.marks.proofs.from_slice.Statement.{statement}
 use Rattle.marks.proofs.from_slice.Tie as tie
 
-byte-or-zero-requires : tie.Need-byte-or-zero-requires
-byte-or-zero-requires c κs = search needs
-
-byte-or-zero-requires-2 : tie.Need-byte-or-zero-requires-2
-byte-or-zero-requires-2 c κs = search needs
-
-byte-or-zero-requires-3 : tie.Need-byte-or-zero-requires-3
-byte-or-zero-requires-3 c κs = search needs
-
-byte-or-zero-requires-4 : tie.Need-byte-or-zero-requires-4
-byte-or-zero-requires-4 c κs = search needs
-
-from-bytes-requires : tie.Need-from-bytes-requires
-from-bytes-requires c κs = search needs
-
 returns : tie.Need-returns
-returns c =
-    let f = c .before in
-    let t = f .before in
-    let s = t .before in
-    c .from-bytes .ensures ∙ first-four _ _ _ _ _ (s .before .byte-or-zero .ensures) (s .byte-or-zero2 .ensures) (t .byte-or-zero3 .ensures) (f .byte-or-zero4 .ensures)
+unfolding marks-in
+returns c = (simp (ne-eqb _ 4 (c .if1 .taken)), refl)
+
+returns-2 : tie.Need-returns-2
+unfolding marks-in of-bytes
+returns-2 c = (simp (eq-eqb _ 4 (c .before .before .before .before .before .if1 .left), c .before .before .before .card-of-byte .ensures), refl)
 
 pub from-slice-spec : {M : Type 1} → statement M
 from-slice-spec =
     tie.close
     (tie.spec
-    byte-or-zero-requires
-    byte-or-zero-requires-2
-    byte-or-zero-requires-3
-    byte-or-zero-requires-4
-    from-bytes-requires
-    returns)
+    returns
+    (λ c. search needs)
+    (λ c κs. search needs)
+    (λ c. search needs)
+    (λ c. search needs)
+    (λ c. search needs)
+    returns-2)

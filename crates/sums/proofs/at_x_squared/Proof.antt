@@ -1,17 +1,17 @@
--- `sums::at_x_squared` meets its contract.
+-- Three folds give a polynomial of degree 21, whose remainder is the bytes' polynomial at x squared: both are additive, and agree at the powers of 2.
 use mathlib.Core.Path.{_∙_}
 use Rattle.field.specs.Field.{_⊕_}
-use Rattle.sums.proofs.Fold.{low, part, folded2, folded2-below, second-is}
+use Rattle.sums.proofs.Fold.{low, part, folding, folded2-below, second-is}
 use native.Mathlib.Omega.{arith}
 use Rattle.sums.proofs.at_x_squared.Statement.{statement}
 use Rattle.sums.proofs.at_x_squared.Tie as tie
 
 reduce-requires : tie.Need-reduce-requires
-unfolding low part folded2 _⊕_
+unfolding low part folding _⊕_
 reduce-requires c κs = folded2-below (c .args .u) (omega arith)
 
 returns : tie.Need-returns
-unfolding low part folded2 _⊕_
+unfolding low part folding _⊕_
 returns c = c .reduce .ensures ∙ second-is (c .before .args .u) (omega arith)
 
 pub at-x-squared-spec : {M : Type 1} → statement M

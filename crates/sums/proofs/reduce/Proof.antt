@@ -1,4 +1,4 @@
--- `sums::reduce` meets its contract.
+-- What is left of v less the quotient times the modulus is its remainder: both are additive, and agree at the powers of 2.
 use Rattle.field.specs.Field.{_⊕_}
 use Rattle.sums.proofs.Fold.{low, up, quotient, less, by-quotient-is, by-quotient-below}
 use Rattle.sums.proofs.reduce.Statement.{statement}

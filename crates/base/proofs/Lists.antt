@@ -1,0 +1,28 @@
+-- Membership in a list, as a fact and as a test.
+--
+--   in-is-in, is-in-in   the test passes exactly for the members
+use mathlib.Core.Logic.{_⊎_, inl, inr}
+use mathlib.Core.Path.{_≡_, refl, sym, ap, _∙_, subst}
+use mathlib.Core.Bool.{Bool, true, false, _||_}
+use mathlib.Core.List.{List, [], _∷_}
+use Prim.Native.Nat.{ℕ}
+use lib.Dec.{T, eqb}
+use borrow.Author.Tests.{eqb-true, eq-eqb}
+use Rattle.base.specs.Base.{In, is-in}
+
+pub in-is-in : (p : ℕ) (l : List ℕ) → In p l → is-in p l ≡ true
+in-is-in p [] h = absurd h
+in-is-in p (a ∷ l) (inl e) = ap (λ (t : Bool). t || is-in p l) (eq-eqb p a e)
+in-is-in p (a ∷ l) (inr h) = ap (λ (t : Bool). eqb p a || t) (in-is-in p l h) ∙ right (eqb p a)
+  where
+    right : (t : Bool) → t || true ≡ true
+    right true = refl
+    right false = refl
+
+pub is-in-in : (p : ℕ) (l : List ℕ) → is-in p l ≡ true → In p l
+is-in-in p [] h = absurd (subst T (sym h) tt)
+is-in-in p (a ∷ l) h = go (eqb p a) refl h (λ z. is-in-in p l z)
+  where
+    go : (t : Bool) → eqb p a ≡ t → t || is-in p l ≡ true → (is-in p l ≡ true → In p l) → (p ≡ a) ⊎ In p l
+    go true e q g = inl (eqb-true p a e)
+    go false e q g = inr (g q)

@@ -1,0 +1,80 @@
+-- Tests that antt computes, and what holds where they pass.
+use mathlib.Core.Logic.{_≢_, _⊎_, inl, inr}
+use mathlib.Core.Path.{_≡_, refl, sym, subst}
+use mathlib.Core.Bool.{Bool, true, false}
+use Prim.Native.Nat.{ℕ, zero, suc, _<_}
+use native.Mathlib.Nat.{not-suc-le-zero, le-of-suc-le-suc, eq-or-lt-of-le, lt-suc-self, lt-trans}
+use lib.Dec.{T, eqb}
+use borrow.Author.Tests.{eqb-true, eqb-false}
+
+-- what holds below n and at n holds below n + 1
+pub below-suc : (P : ℕ → Type 0) (n : ℕ) → P n → ((j : ℕ) → j < n → P j) → (j : ℕ) → j < suc n → P j
+below-suc P n p q j h = pick (eq-or-lt-of-le (le-of-suc-le-suc h))
+  where
+    pick : (j ≡ n) ⊎ (j < n) → P j
+    pick (inl e) = subst P (sym e) p
+    pick (inr l) = q j l
+
+pub same : (a b : ℕ) → (a ≡ b) ⊎ (a ≢ b)
+same a b = pick (eqb a b) refl
+  where
+    pick : (t : Bool) → eqb a b ≡ t → (a ≡ b) ⊎ (a ≢ b)
+    pick true e = inl (eqb-true a b e)
+    pick false e = inr (eqb-false a b e)
+
+-- ---- both, either
+abbrev pub both : Bool → Bool → Bool
+both true b = b
+both false b = false
+
+abbrev pub either : Bool → Bool → Bool
+either true b = true
+either false b = b
+
+pub both-left : (a b : Bool) → T (both a b) → T a
+both-left true b t = tt
+both-left false b t = t
+
+pub both-right : (a b : Bool) → T (both a b) → T b
+both-right true b t = t
+both-right false b t = absurd t
+
+pub both-of : (a b : Bool) → T a → T b → T (both a b)
+both-of true b h g = g
+both-of false b h g = h
+
+pub either-cases : (a b : Bool) → T (either a b) → T a ⊎ T b
+either-cases true b h = inl tt
+either-cases false b h = inr h
+
+pub either-left : (a b : Bool) → T a → T (either a b)
+either-left true b h = tt
+either-left false b h = absurd h
+
+pub either-right : (a b : Bool) → T b → T (either a b)
+either-right true b h = tt
+either-right false b h = h
+
+-- ---- at each number below n
+abbrev pub every : (ℕ → Bool) → ℕ → Bool
+every f zero = true
+every f (suc n) = both (f n) (every f n)
+
+pub every-at : (f : ℕ → Bool) (n : ℕ) → T (every f n) → (i : ℕ) → i < n → T (f i)
+every-at f zero t i h = absurd (not-suc-le-zero h)
+every-at f (suc n) t i h =
+    below-suc (λ i. T (f i)) n (both-left (f n) (every f n) t) (every-at f n (both-right (f n) (every f n) t)) i h
+
+pub every-of : (f : ℕ → Bool) (n : ℕ) → ((i : ℕ) → i < n → T (f i)) → T (every f n)
+every-of f zero h = tt
+every-of f (suc n) h = both-of (f n) (every f n) (h n (lt-suc-self n)) (every-of f n (λ i l. h i (lt-trans l (lt-suc-self n))))
+
+-- ---- a search below n: one that has the property, or none has
+pub find : (P : ℕ → Type 0) (n : ℕ) → ((i : ℕ) → i < n → P i ⊎ (P i → ⊥)) → ((i : ℕ) × (i < n) × P i) ⊎ ((i : ℕ) → i < n → P i → ⊥)
+find P zero d = inr (λ i l. absurd (not-suc-le-zero l))
+find P (suc n) d = go (d n (lt-suc-self n)) (find P n (λ i l. d i (lt-trans l (lt-suc-self n))))
+  where
+    go : P n ⊎ (P n → ⊥) → ((i : ℕ) × (i < n) × P i) ⊎ ((i : ℕ) → i < n → P i → ⊥) → ((i : ℕ) × (i < suc n) × P i) ⊎ ((i : ℕ) → i < suc n → P i → ⊥)
+    go (inl h) r = inl (n, lt-suc-self n, h)
+    go (inr h) (inl w) = inl (w .0, lt-trans (w .1) (lt-suc-self n), w .2)
+    go (inr h) (inr w) = inr (below-suc (λ i. P i → ⊥) n h w)

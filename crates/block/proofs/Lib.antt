@@ -1,0 +1,5 @@
+pub mod Copy
+pub mod Causes
+pub mod Done
+pub mod Exact
+pub mod Tied

@@ -1,0 +1,52 @@
+-- What the calls on one block do, for any arguments, and the record part. Demands 1 and 3; document 01, "What a reading says".
+--
+--   read-cause, mend-cause   the number of the refusal, 0 where nothing is refused
+--   ReadDone       a block read into an output
+--   MendDone       a block read, and the corrected bytes put in its place
+--   LookDone       a block read, and nothing written
+--   record-in      the record as a part of the output
+use Prim.Native.Nat.{ℕ}
+use mathlib.Core.Path.{_≡_}
+use mathlib.Core.Bool.{Bool, true, false, not}
+use mathlib.Core.List.{List, [], _∷_}
+use lib.Dec.{eqb}
+use lib.ListN.{length, take}
+use Rattle.base.specs.Base.{if}
+use Rattle.answer.specs.Answer.{Answer, done, clean, in-chips, in-card, counted, refused, refused-card, By}
+use Rattle.answer.specs.Cause.{cause, lowest}
+use Rattle.marks.specs.Marks.{marks-causes}
+use Rattle.marks.specs.declared.Marks.{Marks}
+use Rattle.reading.specs.Reading.{ReadsUnder}
+
+-- 1: the block received is not 45 bytes; 2: the output is not; 6 and 7: the marks are not lawful
+unfoldable pub read-cause : ℕ → Marks → ℕ → ℕ
+read-cause n m o = lowest (cause 1 (not (eqb n 45)) ∷ cause 2 (not (eqb o 45)) ∷ marks-causes m)
+
+unfoldable pub mend-cause : ℕ → Marks → ℕ
+mend-cause n m = lowest (cause 1 (not (eqb n 45)) ∷ marks-causes m)
+
+-- a primed name is what the bytes hold after the call
+pub record ReadDone (b : List ℕ) (m : Marks) (out : List ℕ) (a : Answer) (b′ out′ : List ℕ) : Type 0 where
+  pub received : b′ ≡ b
+  pub output : By (read-cause (length b) m (length out)) a (out′ ≡ out) (ReadsUnder m b out a out′)
+
+-- as a reading whose output is the block itself
+unfoldable pub MendDone : List ℕ → Marks → Answer → List ℕ → Type 0
+MendDone b m a b′ = By (mend-cause (length b) m) a (b′ ≡ b) (ReadsUnder m b b a b′)
+
+pub record LookDone (b : List ℕ) (m : Marks) (a : Answer) (b′ : List ℕ) : Type 0 where
+  pub received : b′ ≡ b
+  pub answer : By (mend-cause (length b) m) a (Unit {0}) ((x : List ℕ) × ReadsUnder m b [] a x)
+
+-- "the first 34 bytes of that same output", empty on a refusal, and "of an output that is not 45 bytes it is empty"
+abbrev pub is-corrected : Answer → Bool
+is-corrected done = false
+is-corrected clean = true
+is-corrected (in-chips n) = true
+is-corrected (in-card j n) = true
+is-corrected (counted v w x y z) = false
+is-corrected (refused n) = false
+is-corrected (refused-card n j) = false
+
+unfoldable pub record-in : List ℕ → Answer → List ℕ
+record-in out a = if (eqb (length out) 45) (if (is-corrected a) (take 34 out) []) []

@@ -1,0 +1,117 @@
+-- Every answer comes back from its code, so that two answers of a call with one code are the same; and every code fits its width.
+--
+--   split, split-totals    the header's functions give back the parts that a code was packed of; ..-small: whatever the code, within their types
+--   numbered               numbers that stand for a refusal with nothing more
+--   outcome-back, reading-back, report-back   the answer told by the parts of a code is the answer it is the code of
+--   outcome-one, reading-one, report-one      two answers of such a call with one code are the same
+--   outcome-fits, reading-fits, report-fits   32 bits, and 63 for a report
+use Prim.Native.Nat.{ℕ, _^_, _<_, _≤_}
+use mathlib.Core.Logic.{inl, inr}
+use mathlib.Core.Path.{_≡_, refl, sym, ap, _∙_}
+use mathlib.Core.Bool.{Bool, true, false, _&&_}
+use mathlib.Core.List.{List, [], _∷_}
+use native.Mathlib.Omega.{arith}
+use lib.Dec.{leb, eqb}
+use borrow.Author.Tests.{leb-true, eq-eqb, ne-eqb}
+use Rattle.base.specs.Base.{In}
+use Rattle.answer.specs.Answer.{Answer, done, clean, in-chips, in-card, counted, refused, refused-card}
+use Rattle.marks.proofs.Tests.{both}
+use Rattle.capi.specs.Codes.{packed, packed-totals, code, number-in, kind-in, card-in, n-in, clean-in, chips-in, cards-in, none-in, several-in}
+use Rattle.capi.specs.Codes.{by-number, corrected-as, refused-as, outcome-in, reading-in, report-in}
+use Rattle.capi.proofs.Gives.{Outcomes, was-done, was-refused, Readings, was-clean, was-in-chips, was-in-card, was-several, not-read}
+use Rattle.capi.proofs.Gives.{Reports, were-counted, not-counted}
+
+pub split : (number kind card n : ℕ) → number < 256 → kind < 256 → card < 256 → n < 256
+    → (number-in (packed number kind card n) ≡ number) × (kind-in (packed number kind card n) ≡ kind)
+    × (card-in (packed number kind card n) ≡ card) × (n-in (packed number kind card n) ≡ n)
+split number kind card n a b c d = (omega arith, omega arith, omega arith, omega arith)
+
+pub split-totals : (v w x y z : ℕ) → v < 2048 → w < 2048 → x < 2048 → y < 2048 → z < 2048
+    → (number-in (packed-totals v w x y z) ≡ 0) × (clean-in (packed-totals v w x y z) ≡ v) × (chips-in (packed-totals v w x y z) ≡ w)
+    × (cards-in (packed-totals v w x y z) ≡ x) × (none-in (packed-totals v w x y z) ≡ y) × (several-in (packed-totals v w x y z) ≡ z)
+split-totals v w x y z a b c d e = (omega arith, omega arith, omega arith, omega arith, omega arith, omega arith)
+
+-- what is taken out of any number fits a byte, and a total 11 bits
+pub split-small : (c : ℕ) → (number-in c < 256) × (kind-in c < 256) × (card-in c < 256) × (n-in c < 256)
+split-small c = (omega arith, omega arith, omega arith, omega arith)
+
+pub split-totals-small : (c : ℕ) → (clean-in c < 2048) × (chips-in c < 2048) × (cards-in c < 2048) × (none-in c < 2048) × (several-in c < 2048)
+split-totals-small c = (omega arith, omega arith, omega arith, omega arith, omega arith)
+
+-- ---- numbers of refusals: 1 to 10; 11 comes with a card
+abbrev pub numbered : List ℕ → Bool
+numbered [] = true
+numbered (n ∷ ns) = (leb 1 n && leb n 10) && numbered ns
+
+number-of : (ns : List ℕ) → numbered ns ≡ true → (n : ℕ) → In n ns → (1 ≤ n) × (n ≤ 10)
+number-of [] t n h = absurd h
+number-of (m ∷ ns) t n (inl e) =
+    let r = both (leb 1 m) (leb m 10) (both (leb 1 m && leb m 10) (numbered ns) t .0) in
+    (omega (arith, e, leb-true 1 m (r .0)), omega (arith, e, leb-true m 10 (r .1)))
+number-of (m ∷ ns) t n (inr h) = number-of ns (both (leb 1 m && leb m 10) (numbered ns) t .1) n h
+
+-- of a call that refuses with the numbers ns
+module _ (ns : List ℕ) (some : numbered ns ≡ true) where
+  -- ---- every answer comes back
+  number-back : (n : ℕ) → In n ns → (number-in (code (refused n)) ≡ n) × (eqb n 0 ≡ false) × (eqb n 11 ≡ false)
+  number-back n i =
+      let h = number-of ns some n i in (
+        split n 0 0 0 (omega (arith, h .1)) (omega arith) (omega arith) (omega arith) .0,
+        ne-eqb n 0 (λ z. omega (arith, h .0, z)),
+        ne-eqb n 11 (λ z. omega (arith, h .1, z)),
+      )
+
+  pub outcome-back : (a : Answer) → Outcomes ns a → outcome-in (code a) ≡ a
+  unfolding outcome-in by-number
+  outcome-back done was-done = refl
+  outcome-back (refused n) (was-refused i) = let r = number-back n i in simp (r .0, r .1)
+
+  pub reading-back : (a : Answer) → Readings ns a → reading-in (code a) ≡ a
+  unfolding reading-in by-number corrected-as refused-as
+  reading-back clean was-clean = refl
+  reading-back (in-chips n) (was-in-chips h) =
+      let s = split 0 1 0 n (omega arith) (omega arith) (omega arith) (omega (arith, h)) in
+      simp (s .0, s .1, s .3)
+  reading-back (in-card j n) (was-in-card h i) =
+      let s = split 0 2 j n (omega arith) (omega arith) (omega (arith, h)) (omega (arith, i)) in
+      simp (s .0, s .1, s .2, s .3)
+  reading-back (refused-card n j) (was-several e h) =
+      let s = split n 0 j 0 (omega (arith, e)) (omega arith) (omega (arith, h)) (omega arith) in
+      simp (s .0, s .2, ne-eqb n 0 (λ z. omega (arith, e, z)), eq-eqb n 11 e)
+  reading-back (refused n) (not-read i) = let r = number-back n i in simp (r .0, r .1, r .2)
+
+  pub report-back : (a : Answer) → Reports ns a → report-in (code a) ≡ a
+  unfolding report-in by-number
+  report-back (counted u v x y z) (were-counted a b c d e) =
+      let s = split-totals u v x y z (omega (arith, a)) (omega (arith, b)) (omega (arith, c)) (omega (arith, d)) (omega (arith, e)) in
+      simp (s .0, s .1, s .2, s .3, s .4, s .5)
+  report-back (refused n) (not-counted i) = let r = number-back n i in simp (r .0, r .1)
+
+  -- ---- so two answers with one code are the same
+  one : (f : ℕ → Answer) (a b : Answer) → f (code a) ≡ a → f (code b) ≡ b → code a ≡ code b → a ≡ b
+  one f a b p q e = sym p ∙ ap f e ∙ q
+
+  pub outcome-one : (a b : Answer) → Outcomes ns a → Outcomes ns b → code a ≡ code b → a ≡ b
+  outcome-one a b p q e = one outcome-in a b (outcome-back a p) (outcome-back b q) e
+
+  pub reading-one : (a b : Answer) → Readings ns a → Readings ns b → code a ≡ code b → a ≡ b
+  reading-one a b p q e = one reading-in a b (reading-back a p) (reading-back b q) e
+
+  pub report-one : (a b : Answer) → Reports ns a → Reports ns b → code a ≡ code b → a ≡ b
+  report-one a b p q e = one report-in a b (report-back a p) (report-back b q) e
+
+  -- ---- and every code fits: a report's 63 bits, and the others 32
+  pub outcome-fits : (a : Answer) → Outcomes ns a → code a < 2 ^ 32
+  outcome-fits done was-done = omega arith
+  outcome-fits (refused n) (was-refused i) = omega (arith, number-of ns some n i)
+
+  pub reading-fits : (a : Answer) → Readings ns a → code a < 2 ^ 32
+  reading-fits clean was-clean = omega arith
+  reading-fits (in-chips n) (was-in-chips h) = omega (arith, h)
+  reading-fits (in-card j n) (was-in-card h i) = omega (arith, h, i)
+  reading-fits (refused-card n j) (was-several e h) = omega (arith, e, h)
+  reading-fits (refused n) (not-read i) = omega (arith, number-of ns some n i)
+
+  pub report-fits : (a : Answer) → Reports ns a → code a < 2 ^ 63
+  report-fits (counted u v x y z) (were-counted a b c d e) = omega (arith, a, b, c, d, e)
+  report-fits (refused n) (not-counted i) = omega (arith, number-of ns some n i)

@@ -1,0 +1,156 @@
+-- What every caller of an export gets is its relation of specs/Exports.antt.
+--
+--   ..-tied    what the caller learns is that relation, of the bytes at entry and at exit
+--   ..-asks    the caller owes nothing
+--
+-- Where a contract is changed, this file is refused; what the relations tell is in Told.antt.
+use contract.Lifetimes
+use borrow.Fn.Kinds
+use borrow.Fn.World
+use denote.Triple.Clauses
+use denote.Ref.{now}
+use Rattle.marks.specs.declared.MarkCall.the-variants.{PlaceChip, LiftChip, PlaceCard, LiftCard}
+use Rattle.capi.specs.Exports.{StoreCoded, ReadCoded, ClearCoded, PutCoded, GetCoded, PatrolCoded, ReportCoded, MarkCoded}
+use Rattle.capi.proofs.livomashen_store as store
+use Rattle.capi.proofs.livomashen_store.Kinds as store-kinds
+use Rattle.capi.proofs.livomashen_store.Reads as store-reads
+use Rattle.capi.proofs.livomashen_read as read
+use Rattle.capi.proofs.livomashen_read.Kinds as read-kinds
+use Rattle.capi.proofs.livomashen_read.Reads as read-reads
+use Rattle.capi.proofs.livomashen_clear as clear
+use Rattle.capi.proofs.livomashen_clear.Kinds as clear-kinds
+use Rattle.capi.proofs.livomashen_clear.Reads as clear-reads
+use Rattle.capi.proofs.livomashen_put as put
+use Rattle.capi.proofs.livomashen_put.Kinds as put-kinds
+use Rattle.capi.proofs.livomashen_put.Reads as put-reads
+use Rattle.capi.proofs.livomashen_get as get
+use Rattle.capi.proofs.livomashen_get.Kinds as get-kinds
+use Rattle.capi.proofs.livomashen_get.Reads as get-reads
+use Rattle.capi.proofs.livomashen_patrol as patrol
+use Rattle.capi.proofs.livomashen_patrol.Kinds as patrol-kinds
+use Rattle.capi.proofs.livomashen_patrol.Reads as patrol-reads
+use Rattle.capi.proofs.livomashen_report as report
+use Rattle.capi.proofs.livomashen_report.Kinds as report-kinds
+use Rattle.capi.proofs.livomashen_report.Reads as report-reads
+use Rattle.capi.proofs.livomashen_place_chip as place-chip
+use Rattle.capi.proofs.livomashen_place_chip.Kinds as place-chip-kinds
+use Rattle.capi.proofs.livomashen_place_chip.Reads as place-chip-reads
+use Rattle.capi.proofs.livomashen_lift_chip as lift-chip
+use Rattle.capi.proofs.livomashen_lift_chip.Kinds as lift-chip-kinds
+use Rattle.capi.proofs.livomashen_lift_chip.Reads as lift-chip-reads
+use Rattle.capi.proofs.livomashen_place_card as place-card
+use Rattle.capi.proofs.livomashen_place_card.Kinds as place-card-kinds
+use Rattle.capi.proofs.livomashen_place_card.Reads as place-card-reads
+use Rattle.capi.proofs.livomashen_lift_card as lift-card
+use Rattle.capi.proofs.livomashen_lift_card.Kinds as lift-card-kinds
+use Rattle.capi.proofs.livomashen_lift_card.Reads as lift-card-reads
+
+-- store: record, output
+pub store-tied : (κs : Lifetimes.Lfts 2) (a : World.ArgsD store.signature κs) (r : World.ResD store.signature κs)
+    (s : Clauses.AtExit (Kinds.endedOf 2 store-kinds.ps store-kinds.r) κs)
+    → store-reads.Learnt κs a r s
+    → StoreCoded (now (a .0)) (now (a .1 .0)) r (now (s .0)) (now (s .1 .0))
+store-tied κs a r s l = l
+
+pub store-asks : (κs : Lifetimes.Lfts 2) (a : World.ArgsD store.signature κs) → store-reads.Asked κs a
+store-asks κs a = tt
+
+-- read: block, marks, output
+pub read-tied : (κs : Lifetimes.Lfts 3) (a : World.ArgsD read.signature κs) (r : World.ResD read.signature κs)
+    (s : Clauses.AtExit (Kinds.endedOf 3 read-kinds.ps read-kinds.r) κs)
+    → read-reads.Learnt κs a r s
+    → ReadCoded (now (a .0)) (now (a .1 .0)) (now (a .1 .1 .0)) r (now (s .0)) (now (s .1 .0)) (now (s .1 .1 .0))
+read-tied κs a r s l = l
+
+pub read-asks : (κs : Lifetimes.Lfts 3) (a : World.ArgsD read.signature κs) → read-reads.Asked κs a
+read-asks κs a = tt
+
+-- clear: bank
+pub clear-tied : (κs : Lifetimes.Lfts 1) (a : World.ArgsD clear.signature κs) (r : World.ResD clear.signature κs)
+    (s : Clauses.AtExit (Kinds.endedOf 1 clear-kinds.ps clear-kinds.r) κs)
+    → clear-reads.Learnt κs a r s
+    → ClearCoded (now (a .0)) r (now (s .0))
+clear-tied κs a r s l = l
+
+pub clear-asks : (κs : Lifetimes.Lfts 1) (a : World.ArgsD clear.signature κs) → clear-reads.Asked κs a
+clear-asks κs a = tt
+
+-- put: bank, block number, record
+pub put-tied : (κs : Lifetimes.Lfts 2) (a : World.ArgsD put.signature κs) (r : World.ResD put.signature κs)
+    (s : Clauses.AtExit (Kinds.endedOf 2 put-kinds.ps put-kinds.r) κs)
+    → put-reads.Learnt κs a r s
+    → PutCoded (now (a .0)) (a .1 .0) (now (a .1 .1 .0)) r (now (s .0)) (now (s .1 .1 .0))
+put-tied κs a r s l = l
+
+pub put-asks : (κs : Lifetimes.Lfts 2) (a : World.ArgsD put.signature κs) → put-reads.Asked κs a
+put-asks κs a = tt
+
+-- get: bank, block number, marks, output
+pub get-tied : (κs : Lifetimes.Lfts 3) (a : World.ArgsD get.signature κs) (r : World.ResD get.signature κs)
+    (s : Clauses.AtExit (Kinds.endedOf 3 get-kinds.ps get-kinds.r) κs)
+    → get-reads.Learnt κs a r s
+    → GetCoded (now (a .0)) (a .1 .0) (now (a .1 .1 .0)) (now (a .1 .1 .1 .0)) r (now (s .0)) (now (s .1 .1 .0)) (now (s .1 .1 .1 .0))
+get-tied κs a r s l = l
+
+pub get-asks : (κs : Lifetimes.Lfts 3) (a : World.ArgsD get.signature κs) → get-reads.Asked κs a
+get-asks κs a = tt
+
+-- patrol: bank, block number, marks
+pub patrol-tied : (κs : Lifetimes.Lfts 2) (a : World.ArgsD patrol.signature κs) (r : World.ResD patrol.signature κs)
+    (s : Clauses.AtExit (Kinds.endedOf 2 patrol-kinds.ps patrol-kinds.r) κs)
+    → patrol-reads.Learnt κs a r s
+    → PatrolCoded (now (a .0)) (a .1 .0) (now (a .1 .1 .0)) r (now (s .0)) (now (s .1 .1 .0))
+patrol-tied κs a r s l = l
+
+pub patrol-asks : (κs : Lifetimes.Lfts 2) (a : World.ArgsD patrol.signature κs) → patrol-reads.Asked κs a
+patrol-asks κs a = tt
+
+-- report: bank, marks
+pub report-tied : (κs : Lifetimes.Lfts 2) (a : World.ArgsD report.signature κs) (r : World.ResD report.signature κs)
+    (s : Clauses.AtExit (Kinds.endedOf 2 report-kinds.ps report-kinds.r) κs)
+    → report-reads.Learnt κs a r s
+    → ReportCoded (now (a .0)) (now (a .1 .0)) r (now (s .0)) (now (s .1 .0))
+report-tied κs a r s l = l
+
+pub report-asks : (κs : Lifetimes.Lfts 2) (a : World.ArgsD report.signature κs) → report-reads.Asked κs a
+report-asks κs a = tt
+
+-- place chip: marks, position
+pub place-chip-tied : (κs : Lifetimes.Lfts 1) (a : World.ArgsD place-chip.signature κs) (r : World.ResD place-chip.signature κs)
+    (s : Clauses.AtExit (Kinds.endedOf 1 place-chip-kinds.ps place-chip-kinds.r) κs)
+    → place-chip-reads.Learnt κs a r s
+    → MarkCoded (now (a .0)) (PlaceChip (a .1 .0)) r (now (s .0))
+place-chip-tied κs a r s l = l
+
+pub place-chip-asks : (κs : Lifetimes.Lfts 1) (a : World.ArgsD place-chip.signature κs) → place-chip-reads.Asked κs a
+place-chip-asks κs a = tt
+
+-- lift chip: marks, position
+pub lift-chip-tied : (κs : Lifetimes.Lfts 1) (a : World.ArgsD lift-chip.signature κs) (r : World.ResD lift-chip.signature κs)
+    (s : Clauses.AtExit (Kinds.endedOf 1 lift-chip-kinds.ps lift-chip-kinds.r) κs)
+    → lift-chip-reads.Learnt κs a r s
+    → MarkCoded (now (a .0)) (LiftChip (a .1 .0)) r (now (s .0))
+lift-chip-tied κs a r s l = l
+
+pub lift-chip-asks : (κs : Lifetimes.Lfts 1) (a : World.ArgsD lift-chip.signature κs) → lift-chip-reads.Asked κs a
+lift-chip-asks κs a = tt
+
+-- place card: marks, card
+pub place-card-tied : (κs : Lifetimes.Lfts 1) (a : World.ArgsD place-card.signature κs) (r : World.ResD place-card.signature κs)
+    (s : Clauses.AtExit (Kinds.endedOf 1 place-card-kinds.ps place-card-kinds.r) κs)
+    → place-card-reads.Learnt κs a r s
+    → MarkCoded (now (a .0)) (PlaceCard (a .1 .0)) r (now (s .0))
+place-card-tied κs a r s l = l
+
+pub place-card-asks : (κs : Lifetimes.Lfts 1) (a : World.ArgsD place-card.signature κs) → place-card-reads.Asked κs a
+place-card-asks κs a = tt
+
+-- lift card: marks
+pub lift-card-tied : (κs : Lifetimes.Lfts 1) (a : World.ArgsD lift-card.signature κs) (r : World.ResD lift-card.signature κs)
+    (s : Clauses.AtExit (Kinds.endedOf 1 lift-card-kinds.ps lift-card-kinds.r) κs)
+    → lift-card-reads.Learnt κs a r s
+    → MarkCoded (now (a .0)) LiftCard r (now (s .0))
+lift-card-tied κs a r s l = l
+
+pub lift-card-asks : (κs : Lifetimes.Lfts 1) (a : World.ArgsD lift-card.signature κs) → lift-card-reads.Asked κs a
+lift-card-asks κs a = tt

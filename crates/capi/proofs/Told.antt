@@ -1,0 +1,84 @@
+-- What a program in C learns: the answer that it takes out of the code is the library's, and no other.
+--
+--   Told Says f c      the answer that f takes out of the code c is one of which the call says so, and c is its code
+--   told, told-under   every export's contract tells its answer
+--   store-told, read-told, clear-told, put-told, get-told, patrol-told, report-told, mark-told   the exports, each with all that was lent for reading as before
+--   mark-record-told   placing and lifting, of the record in the bytes
+use Prim.Native.Nat.{ℕ}
+use mathlib.Core.Path.{_≡_, refl, sym, ap, _∙_, subst}
+use mathlib.Core.List.{List, [], _∷_}
+use Rattle.answer.specs.Answer.{Answer}
+use Rattle.marks.specs.Marks.{marks-in}
+use Rattle.marks.specs.Mark.{MarkDone}
+use Rattle.marks.specs.declared.Marks.{Marks}
+use Rattle.marks.specs.declared.MarkCall.{MarkCall}
+use Rattle.marks.specs.declared.MarkCall.the-variants.{PlaceChip, LiftChip, PlaceCard, LiftCard}
+use Rattle.store.specs.Store.{StoreDone}
+use Rattle.block.specs.Read.{ReadDone}
+use Rattle.bank.specs.Calls.{ClearDone, PutDone, GetDone, PatrolDone, ReportDone}
+use Rattle.capi.specs.Codes.{code, outcome-in, reading-in, report-in}
+use Rattle.capi.specs.Exports.{Coded, CodedUnder, StoreCoded, ReadCoded, ClearCoded, PutCoded, GetCoded, PatrolCoded, ReportCoded, Marked, MarkCoded}
+use Rattle.capi.proofs.Gives.{store-gives, clear-gives, put-gives, mark-gives, read-gives, get-gives, patrol-gives, report-gives, Outcomes, mark-numbers}
+use Rattle.capi.proofs.Codes.{outcome-back, reading-back, report-back}
+use Rattle.capi.proofs.Written.{marked-done}
+
+pub record Told (Says : Answer → Type 0) (f : ℕ → Answer) (c : ℕ) : Type 0 where
+  pub says : Says (f c)
+  pub coded : c ≡ code (f c)
+
+pub told : (Says : Answer → Type 0) (f : ℕ → Answer) → ((a : Answer) → Says a → f (code a) ≡ a) → (c : ℕ) → Coded Says c → Told Says f c
+told Says f back c w = record { says = subst Says (sym same) (w .says); coded = w .coded ∙ ap code (sym same) }
+  where
+    same : f c ≡ w .answer
+    same = ap f (w .coded) ∙ back (w .answer) (w .says)
+
+pub told-under : (Says : Marks → Answer → Type 0) (f : ℕ → Answer) → ((m : Marks) (a : Answer) → Says m a → f (code a) ≡ a) → (m : List ℕ) (c : ℕ) (m′ : List ℕ)
+    → CodedUnder Says m c m′ → Told (Says (marks-in m)) f c × (m′ ≡ m)
+told-under Says f back m c m′ w =
+    (subst (λ (x : Marks). Told (Says x) f c) (w .in-bytes) (told (Says (w .marks)) f (back (w .marks)) c (w .coded)), w .kept)
+
+-- ---- done or refused
+pub store-told : (rec out : List ℕ) (c : ℕ) (rec′ out′ : List ℕ) → StoreCoded rec out c rec′ out′ → Told (λ a. StoreDone rec out a rec′ out′) outcome-in c
+store-told rec out c rec′ out′ w = told _ outcome-in (λ a d. outcome-back (2 ∷ 3 ∷ []) refl a (store-gives rec out a rec′ out′ d)) c w
+
+pub clear-told : (bank : List ℕ) (c : ℕ) (bank′ : List ℕ) → ClearCoded bank c bank′ → Told (λ a. ClearDone bank a bank′) outcome-in c
+clear-told bank c bank′ w = told _ outcome-in (λ a d. outcome-back (4 ∷ []) refl a (clear-gives bank a bank′ d)) c w
+
+pub put-told : (bank : List ℕ) (k : ℕ) (rec : List ℕ) (c : ℕ) (bank′ rec′ : List ℕ) → PutCoded bank k rec c bank′ rec′
+    → Told (λ a. PutDone bank k rec a bank′ rec′) outcome-in c
+put-told bank k rec c bank′ rec′ w = told _ outcome-in (λ a d. outcome-back (3 ∷ 4 ∷ 5 ∷ []) refl a (put-gives bank k rec a bank′ rec′ d)) c w
+
+mark-back : (call : MarkCall) (a : Answer) → Outcomes (mark-numbers call) a → outcome-in (code a) ≡ a
+mark-back (PlaceChip p) a w = outcome-back (6 ∷ 7 ∷ 8 ∷ []) refl a w
+mark-back (LiftChip p) a w = outcome-back (6 ∷ 7 ∷ 9 ∷ []) refl a w
+mark-back (PlaceCard j) a w = outcome-back (6 ∷ 7 ∷ 8 ∷ []) refl a w
+mark-back LiftCard a w = outcome-back (6 ∷ 7 ∷ 9 ∷ []) refl a w
+
+pub mark-told : (m : List ℕ) (call : MarkCall) (c : ℕ) (m′ : List ℕ) → MarkCoded m call c m′ → Told (λ a. Marked m call a m′) outcome-in c
+mark-told m call c m′ w = told _ outcome-in (λ a d. mark-back call a (mark-gives m call a m′ d)) c w
+
+pub mark-record-told : (m : List ℕ) (call : MarkCall) (c : ℕ) (m′ : List ℕ) → MarkCoded m call c m′ → MarkDone (marks-in m) call (outcome-in c) (marks-in m′)
+mark-record-told m call c m′ w = marked-done m call (outcome-in c) m′ (mark-told m call c m′ w .says)
+
+-- ---- readings, and the report
+pub read-told : (b m out : List ℕ) (c : ℕ) (b′ m′ out′ : List ℕ) → ReadCoded b m out c b′ m′ out′
+    → Told (λ a. ReadDone b (marks-in m) out a b′ out′) reading-in c × (m′ ≡ m)
+read-told b m out c b′ m′ out′ w =
+    told-under (λ n a. ReadDone b n out a b′ out′) reading-in (λ n a d. reading-back (1 ∷ 2 ∷ 6 ∷ 7 ∷ 10 ∷ []) refl a (read-gives b n out a b′ out′ d)) m c m′ w
+
+pub get-told : (bank : List ℕ) (k : ℕ) (m out : List ℕ) (c : ℕ) (bank′ m′ out′ : List ℕ) → GetCoded bank k m out c bank′ m′ out′
+    → Told (λ a. GetDone bank k (marks-in m) out a bank′ out′) reading-in c × (m′ ≡ m)
+get-told bank k m out c bank′ m′ out′ w =
+    told-under (λ n a. GetDone bank k n out a bank′ out′) reading-in
+    (λ n a d. reading-back (2 ∷ 4 ∷ 5 ∷ 6 ∷ 7 ∷ 10 ∷ []) refl a (get-gives bank k n out a bank′ out′ d)) m c m′ w
+
+pub patrol-told : (bank : List ℕ) (k : ℕ) (m : List ℕ) (c : ℕ) (bank′ m′ : List ℕ) → PatrolCoded bank k m c bank′ m′
+    → Told (λ a. PatrolDone bank k (marks-in m) a bank′) reading-in c × (m′ ≡ m)
+patrol-told bank k m c bank′ m′ w =
+    told-under (λ n a. PatrolDone bank k n a bank′) reading-in
+    (λ n a d. reading-back (4 ∷ 5 ∷ 6 ∷ 7 ∷ 10 ∷ []) refl a (patrol-gives bank k n a bank′ d)) m c m′ w
+
+pub report-told : (bank m : List ℕ) (c : ℕ) (bank′ m′ : List ℕ) → ReportCoded bank m c bank′ m′
+    → Told (λ a. ReportDone bank (marks-in m) a bank′) report-in c × (m′ ≡ m)
+report-told bank m c bank′ m′ w =
+    told-under (λ n a. ReportDone bank n a bank′) report-in (λ n a d. report-back (4 ∷ 6 ∷ 7 ∷ []) refl a (report-gives bank n a bank′ d)) m c m′ w

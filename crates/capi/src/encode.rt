@@ -1,0 +1,59 @@
+// Answers as codes: bits 0 to 7 are the number; 8 to 15 the kind, 16 to 23 the card, 24 to 31 n; of a report, the totals from bit 8.
+ghost use mathlib.Core.Path.{_≡_};
+ghost use Prim.Native.Nat.{_≤_};
+ghost use Rattle.answer.specs.Answer.{outcome-answer};
+ghost use Rattle.reading.specs.Reading.{reading-answer};
+ghost use Rattle.reading.specs.declared.Reading.the-variants.{Corrected};
+ghost use Rattle.capi.specs.Codes.{code, packed, packed-totals};
+use answer::Outcome;
+use bank::Totals;
+use reading::Kind;
+use reading::Reading;
+
+fn packed(number: u8, kind: u8, card: u8, n: u8) -> u32
+    ensures { λ c. ⌜ c ≡ packed number kind card n ⌝ }
+{
+    let low = number as u32 + 256 * (kind as u32);
+    let high = card as u32 + 256 * (n as u32);
+    low + 65536 * high
+}
+
+pub fn of_outcome(r: Outcome) -> u32
+    ensures { λ c. ⌜ c ≡ code (outcome-answer r) ⌝ }
+{
+    match r {
+        Outcome::Done => packed(0, 0, 0, 0),
+        Outcome::Refused(n) => packed(n, 0, 0, 0),
+    }
+}
+
+fn of_kind(kind: Kind) -> u32
+    ensures { λ c. ⌜ c ≡ code (reading-answer (Corrected kind)) ⌝ }
+{
+    match kind {
+        Kind::Clean => packed(0, 0, 0, 0),
+        Kind::Chips(n) => packed(0, 1, 0, n),
+        Kind::OneCard(j, n) => packed(0, 2, j, n),
+    }
+}
+
+pub fn of_reading(r: Reading) -> u32
+    ensures { λ c. ⌜ c ≡ code (reading-answer r) ⌝ }
+{
+    match r {
+        Reading::Corrected(kind) => of_kind(kind),
+        Reading::Several(j) => packed(11, 0, j, 0),
+        Reading::Refused(n) => packed(n, 0, 0, 0),
+    }
+}
+
+// Five totals of 11 bits each.
+pub fn of_totals(t: Totals) -> u64
+    requires { ⌜ (t .clean ≤ 1024) × (t .chips ≤ 1024) × (t .card ≤ 1024) × (t .none ≤ 1024) × (t .several ≤ 1024) ⌝ }
+    ensures { λ c. ⌜ c ≡ packed-totals (t .clean) (t .chips) (t .card) (t .none) (t .several) ⌝ }
+{
+    let c = t.none as u64 + 2048 * (t.several as u64);
+    let c = t.card as u64 + 2048 * c;
+    let c = t.chips as u64 + 2048 * c;
+    256 * (t.clean as u64 + 2048 * c)
+}

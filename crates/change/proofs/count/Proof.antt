@@ -1,0 +1,50 @@
+-- The places counted are the bytes changed, where the change is well formed: the three counts add up to `places`, and that is how many.
+use mathlib.Core.Path.{_≡_, sym, ap₂, _∙_}
+use Prim.Native.Nat.{ℕ, _+_}
+use Rattle.base.proofs.Tally.{at-most}
+use Rattle.change.specs.Change.{places}
+use Rattle.change.proofs.Places.{at-most-one, changes-places}
+use borrow.Author.Needs.{needs}
+use native.Mathlib.Omega.{arith}
+use Rattle.change.proofs.count.Statement.{statement}
+use Rattle.change.proofs.count.Tie as tie
+
+count-rows-requires : tie.Need-count-rows-requires
+count-rows-requires c κs = search needs
+
+one-if-nonzero-requires : tie.Need-one-if-nonzero-requires
+one-if-nonzero-requires c κs = search needs
+
+one-if-nonzero-requires-2 : tie.Need-one-if-nonzero-requires-2
+one-if-nonzero-requires-2 c κs = search needs
+
+add-result : tie.Need-add-result
+add-result c =
+    let d = c .before .before .before .before .args .d in
+    omega (arith, at-most-one (d .e) _ (c .before .one-if-nonzero .ensures), at-most-one (d .f) _ (c .one-if-nonzero2 .ensures))
+
+add-result-2 : tie.Need-add-result-2
+add-result-2 c =
+    let d = c .before .before .before .before .args .d in
+    let n = at-most 9 _ _ (c .before .before .count-rows .ensures) in
+    omega (arith, n, at-most-one (d .e) _ (c .before .one-if-nonzero .ensures), at-most-one (d .f) _ (c .one-if-nonzero2 .ensures))
+
+returns : tie.Need-returns
+unfolding places
+returns c =
+    let d = c .before .before .before .before .args .d in
+    let n = c .before .before .count-rows .result + (c .before .one-if-nonzero .result + c .one-if-nonzero2 .result) in
+    let e : n ≡ places d = ap₂ (λ (x y : ℕ). x + y) (c .before .before .count-rows .ensures)
+    (ap₂ (λ (x y : ℕ). x + y) (c .before .one-if-nonzero .ensures) (c .one-if-nonzero2 .ensures)) in
+    record { places = e; changes = λ w b l. e ∙ sym (changes-places d w b l) }
+
+pub count-spec : {M : Type 1} → statement M
+count-spec =
+    tie.close
+    (tie.spec
+    count-rows-requires
+    one-if-nonzero-requires
+    one-if-nonzero-requires-2
+    add-result
+    add-result-2
+    returns)

@@ -1,0 +1,9 @@
+pub mod Describe
+pub mod Marked
+pub mod Steps
+pub mod Kind
+pub mod Answer
+pub mod Cards
+pub mod Beside
+pub mod Alone
+pub mod Turns

@@ -1,0 +1,245 @@
+// The reading of a block from its eleven sums, under any marks: a search for the lawful blocks that the marks allow.
+//
+// With no card marked the five cards are searched, each with the marked chips. A change of the chip kind reaches the only member of S,
+// and two cards that are not of the chip kind reach different blocks, so that no block is compared with another. The block itself is not
+// looked at: what is said holds for every block with these sums.
+ghost use mathlib.Core.Path.{_≡_};
+ghost use mathlib.Core.List.{List, []};
+ghost use Prim.Native.Nat.{ℕ, _<_};
+ghost use lib.ListN.{length};
+ghost use Rattle.base.specs.Base.{tally};
+ghost use Rattle.code.specs.Labels.{LabelSet};
+ghost use Rattle.marks.specs.Marks.{marked-chips, LawfulMarks};
+ghost use Rattle.marks.specs.declared.CardMark.the-variants.{None, Card};
+ghost use Rattle.sums.specs.Words.{spread, Small, gathered};
+ghost use Rattle.sums.specs.Sums.{rows-of};
+ghost use Rattle.sums.specs.declared.Sums.{Sums};
+ghost use Rattle.sums.proofs.Syndrome.{card-part};
+ghost use Rattle.change.specs.Change.{nonzero-at, no-change, places};
+ghost use Rattle.decode.specs.Search.{SumsAt, Alone, chips-kind, card-kind};
+ghost use Rattle.decode.specs.Decode.{Answers, Decodes};
+
+mod chips;
+mod equations;
+
+// A reading, and the change that it stands for: none on a refusal.
+pub struct Decoded {
+    pub reading: reading::Reading,
+    pub change: change::Change,
+}
+
+// A refusal changes nothing.
+fn refused(r: reading::Reading) -> Decoded
+    ensures { λ d. ⌜ (d .reading ≡ r) × (d .change ≡ no-change) ⌝ }
+{
+    Decoded {
+        reading: r,
+        change: change::no_change(),
+    }
+}
+
+fn chips_kind(n: u8) -> reading::Kind
+    ensures { λ r. ⌜ r ≡ chips-kind n ⌝ }
+{
+    if n == 0 {
+        return reading::Kind::Clean;
+    }
+    reading::Kind::Chips(n)
+}
+
+// The word that gathers the rows by card j's words.
+fn card_word(words: &[u64], rows: [u8; 9], j: u8) -> u64
+    requires { ⌜ (length (now words) ≡ 45) × Small (now words) × (j < 5) ⌝ }
+    ensures { λ u. ⌜ u ≡ gathered rows (card-part (now (words .entry)) j) ⌝ }
+{
+    let at = 9 * (j as usize);
+    let end = at + 9;
+    sums::gather(&rows, &words[at..end])
+}
+
+// ---- no card marked
+// Whether card j alone reaches a lawful block. The second sum is worked out only where the first fits.
+fn fits_alone(words: &[u64], s: sums::Sums, rows: [u8; 9], j: u8) -> bool
+    requires { ⌜ (length (now words) ≡ 45) × Small (now words) × (j < 5) × (rows ≡ rows-of s) ⌝ }
+    ensures { λ r. ⌜ ((labels : List ℕ) → LabelSet labels → now (words .entry) ≡ spread labels → Alone labels s j r) ⌝ }
+{
+    let u = card_word(words, rows, j);
+    if sums::at_x(u) != s.once {
+        return false;
+    }
+    sums::at_x_squared(u) == s.squared
+}
+
+// No chip marked either: what a card takes are the rows themselves, so that all cards change as many bytes.
+fn no_marks(words: &[u64], s: sums::Sums) -> Decoded
+    requires { ⌜ (length (now words) ≡ 45) × Small (now words) ⌝ }
+    ensures { λ r. ⌜ ((labels : List ℕ) → LabelSet labels → now (words .entry) ≡ spread labels → Answers labels None [] s r) ⌝ }
+{
+    let rows = sums::rows(s);
+    let n = change::count(equations::alone(rows, 0));
+    let mut found: u8 = 0;
+    let mut card: u8 = 0;
+    'cards: for j in 0u8..5 {
+        if fits_alone(words, s, rows, j) {
+            if n <= 1 {
+                return Decoded {
+                    reading: reading::Reading::Corrected(chips_kind(n)),
+                    change: equations::alone(rows, j),
+                };
+            }
+            if found == 1 {
+                found = 2;
+                break 'cards;
+            }
+            found = 1;
+            card = j;
+        }
+    }
+    if found == 0 {
+        return refused(reading::Reading::Refused(10));
+    }
+    if found == 2 {
+        return refused(reading::Reading::Several(card));
+    }
+    Decoded {
+        reading: reading::Reading::Corrected(reading::Kind::OneCard(card, n)),
+        change: equations::alone(rows, card),
+    }
+}
+
+// The cards are looked at in turn, each with the marked chips, until two different lawful blocks are found or one by chips.
+fn over_cards(labels: &[u8], words: &[u64], s: sums::Sums, m: marks::Marks) -> Decoded
+    requires { ⌜ LabelSet (now labels) × (now words ≡ spread (now labels)) × LawfulMarks m ⌝ }
+    ensures { λ r. ⌜ Answers (now (labels .entry)) None (marked-chips m) s r ⌝ }
+{
+    let rows = sums::rows(s);
+    let mut found: u8 = 0;
+    let mut card: u8 = 0;
+    let mut held_once: u8 = 0;
+    let mut held_squared: u8 = 0;
+    'cards: for j in 0u8..5 {
+        let u = card_word(words, rows, j);
+        let once = field::add(s.once, sums::at_x(u));
+        let squared = field::add(s.squared, sums::at_x_squared(u));
+        let w = chips::off_card(m, j);
+        if equations::fits(labels, once, squared, j, w) {
+            let d = equations::solve(labels, rows, once, squared, j, w);
+            if chips::of_chip_kind(d, m) {
+                let n = change::count(d);
+                return Decoded {
+                    reading: reading::Reading::Corrected(chips_kind(n)),
+                    change: d,
+                };
+            }
+            if found == 1 {
+                found = 2;
+                break 'cards;
+            }
+            found = 1;
+            card = j;
+            held_once = once;
+            held_squared = squared;
+        }
+    }
+    if found == 0 {
+        return refused(reading::Reading::Refused(10));
+    }
+    if found == 2 {
+        return refused(reading::Reading::Several(card));
+    }
+    let w = chips::off_card(m, card);
+    let d = equations::solve(labels, rows, held_once, held_squared, card, w);
+    let n = change::count(d);
+    Decoded {
+        reading: reading::Reading::Corrected(reading::Kind::OneCard(card, n)),
+        change: d,
+    }
+}
+
+// ---- card j marked
+fn kind_under(d: change::Change, j: u8) -> reading::Kind
+    ensures { λ r. ⌜ r ≡ card-kind j (tally 9 (nonzero-at (d .rows))) (places d) ⌝ }
+{
+    let rows = d.rows;
+    let own = change::count(equations::alone(rows, j));
+    let n = change::count(d);
+    if own == 0 {
+        return chips_kind(n);
+    }
+    reading::Kind::OneCard(j, n)
+}
+
+// No chip marked: card j alone, or with the one further chip that can be wrong.
+fn beside_card(labels: &[u8], rows: [u8; 9], once: u8, squared: u8, j: u8) -> Decoded
+    requires { ⌜ LabelSet (now labels) × (j < 5) ⌝ }
+    ensures { λ r. ⌜ ((s : Sums) → rows ≡ rows-of s → SumsAt (now (labels .entry)) s j once squared → Answers (now (labels .entry)) (Card j) [] s r) ⌝ }
+{
+    if once == 0 {
+        if squared != 0 {
+            return refused(reading::Reading::Refused(10));
+        }
+        let d = equations::alone(rows, j);
+        return Decoded {
+            reading: reading::Reading::Corrected(kind_under(d, j)),
+            change: d,
+        };
+    }
+    let p = equations::further_chip(labels, once, squared, j);
+    if p / 9 == j {
+        return refused(reading::Reading::Refused(10));
+    }
+    let d = equations::with_one(labels, rows, once, squared, j, p);
+    Decoded {
+        reading: reading::Reading::Corrected(kind_under(d, j)),
+        change: d,
+    }
+}
+
+// At most one lawful block is allowed.
+fn under_card(labels: &[u8], words: &[u64], s: sums::Sums, m: marks::Marks, j: u8) -> Decoded
+    requires { ⌜ LabelSet (now labels) × (now words ≡ spread (now labels)) × LawfulMarks m × (j < 5) ⌝ }
+    ensures { λ r. ⌜ Answers (now (labels .entry)) (Card j) (marked-chips m) s r ⌝ }
+{
+    let rows = sums::rows(s);
+    let u = card_word(words, rows, j);
+    let once = field::add(s.once, sums::at_x(u));
+    let squared = field::add(s.squared, sums::at_x_squared(u));
+    if m.count == 0 {
+        return beside_card(labels, rows, once, squared, j);
+    }
+    let w = chips::off_card(m, j);
+    if equations::fits(labels, once, squared, j, w) {
+        let d = equations::solve(labels, rows, once, squared, j, w);
+        return Decoded {
+            reading: reading::Reading::Corrected(kind_under(d, j)),
+            change: d,
+        };
+    }
+    refused(reading::Reading::Refused(10))
+}
+
+// ---- any marks
+// What the sums of a block say under marks, and the change that corrects it. Marks that are not lawful are refused with their number.
+pub fn decode(s: sums::Sums, m: marks::Marks) -> Decoded
+    ensures { λ r. ⌜ Decodes s m r ⌝ }
+{
+    let cause = marks::marks_cause(m);
+    if cause != 0 {
+        return refused(reading::Reading::Refused(cause));
+    }
+    let words = sums::built_in();
+    let card = m.card;
+    match card {
+        marks::CardMark::None => {
+            if m.count == 0 {
+                return no_marks(&words, s);
+            }
+            let labels = code::labels();
+            over_cards(&labels, &words, s, m)
+        }
+        marks::CardMark::Card(j) => {
+            let labels = code::labels();
+            under_card(&labels, &words, s, m, j)
+        }
+    }
+}

@@ -1,0 +1,83 @@
+-- Placing and lifting a mark: the four calls as one, with its causes of refusal and the record after it. Document 01, "Marks" and
+-- "Causes of refusal".
+--
+--   mark-cause m c   the number of the refusal of the call c on the record m, 0 where nothing is refused
+--   marked m c       the record after it
+--   MarkDone         the contract
+use Prim.Native.Nat.{ℕ}
+use mathlib.Core.Path.{_≡_}
+use mathlib.Core.Bool.{Bool, true, false, _&&_, _||_, not}
+use mathlib.Core.List.{List, [], _∷_, _++_}
+use lib.Dec.{eqb, ltb}
+use Rattle.base.specs.Base.{if}
+use Rattle.answer.specs.Answer.{Answer, done, By}
+use Rattle.answer.specs.Cause.{Cause, cause, lowest}
+use Rattle.marks.specs.Marks.{marked-chips, in-range, two-equal, is-marked}
+use Rattle.marks.specs.declared.CardMark.{CardMark}
+use Rattle.marks.specs.declared.CardMark.the-variants.{None, Card}
+use Rattle.marks.specs.declared.Marks.{Marks}
+use Rattle.marks.specs.declared.MarkCall.{MarkCall}
+use Rattle.marks.specs.declared.MarkCall.the-variants.{PlaceChip, LiftChip, PlaceCard, LiftCard}
+
+-- ---- the record after it
+-- the record of a card mark and at most two chips
+abbrev pub of-chips : CardMark → List ℕ → Marks
+of-chips c [] = record { card = c; count = 0; first = 255; second = 255 }
+of-chips c (p ∷ []) = record { card = c; count = 1; first = p; second = 255 }
+of-chips c (p ∷ q ∷ l) = record { card = c; count = 2; first = p; second = q }
+
+abbrev pub remove : ℕ → List ℕ → List ℕ
+remove p [] = []
+remove p (a ∷ l) = if (eqb p a) l (a ∷ remove p l)
+
+-- a chip after those there; a chip taken out, and the later one moved down
+unfoldable pub marked : Marks → MarkCall → Marks
+marked m (PlaceChip p) = of-chips (m .card) (marked-chips m ++ (p ∷ []))
+marked m (LiftChip p) = of-chips (m .card) (remove p (marked-chips m))
+marked m (PlaceCard j) = record { card = Card j; count = m .count; first = m .first; second = m .second }
+marked m LiftCard = record { card = None; count = m .count; first = m .first; second = m .second }
+
+-- ---- the causes
+abbrev pub card-is : CardMark → ℕ → Bool
+card-is None j = false
+card-is (Card i) j = eqb i j
+
+abbrev pub some-card : CardMark → Bool
+some-card None = false
+some-card (Card i) = true
+
+-- 6: the mark asked for is outside its ranges
+abbrev pub asked-in-range : MarkCall → Bool
+asked-in-range (PlaceChip p) = ltb p 45
+asked-in-range (LiftChip p) = ltb p 45
+asked-in-range (PlaceCard j) = ltb j 5
+asked-in-range LiftCard = true
+
+-- 7: the mark to place is already there
+abbrev pub already : Marks → MarkCall → Bool
+already m (PlaceChip p) = is-marked m p
+already m (LiftChip p) = false
+already m (PlaceCard j) = card-is (m .card) j
+already m LiftCard = false
+
+-- 8: a third chip mark, or another card while one is marked
+abbrev pub too-many : Marks → MarkCall → Bool
+too-many m (PlaceChip p) = eqb (m .count) 2
+too-many m (LiftChip p) = false
+too-many m (PlaceCard j) = some-card (m .card)
+too-many m LiftCard = false
+
+-- 9: the mark to lift is not there
+abbrev pub absent : Marks → MarkCall → Bool
+absent m (PlaceChip p) = false
+absent m (LiftChip p) = not (is-marked m p)
+absent m (PlaceCard j) = false
+absent m LiftCard = not (some-card (m .card))
+
+unfoldable pub mark-cause : Marks → MarkCall → ℕ
+mark-cause m c =
+    lowest (cause 6 (not (in-range m && asked-in-range c)) ∷ cause 7 (two-equal m || already m c) ∷ cause 8 (too-many m c) ∷ cause 9 (absent m c) ∷ [])
+
+-- ---- the contract
+unfoldable pub MarkDone : Marks → MarkCall → Answer → Marks → Type 0
+MarkDone m c a m′ = By (mark-cause m c) a (m′ ≡ m) ((a ≡ done) × (m′ ≡ marked m c))

@@ -1,0 +1,26 @@
+-- `program::corrected_line` meets its contract, kind by kind: each arm puts the line of its answer.
+use borrow.Author.Needs.{needs}
+use Rattle.program.proofs.corrected_line.Statement.{statement}
+use Rattle.program.proofs.corrected_line.Tie as tie
+
+returns : tie.Need-returns
+returns c =
+    let line = c .before .before in
+    rw (line .before .before .before .enum-told .given .1) (line .put .ensures .0)
+
+returns-2 : tie.Need-returns-2
+returns-2 c =
+    let line = c .before .before in
+    rw (line .before .before .before .kind .given .1) (line .chips-line .ensures)
+
+returns-3 : tie.Need-returns-3
+returns-3 c =
+    let line = c .before .before in
+    rw (line .before .before .before .kind2 .given .1) (line .card-line .ensures)
+
+pub corrected-line-spec : {M : Type 1} → statement M
+corrected-line-spec =
+    tie.close
+    (tie.spec (λ c. search needs) (λ c. search needs) (λ c κs. search needs) (λ c. search needs) (λ c κs. search needs)
+    (λ c. search needs) (λ c κs. search needs) (λ c. search needs) returns (λ c. search needs) returns-2
+    (λ c. search needs) returns-3)

@@ -1,3 +1,0 @@
-pub mod Causes
-pub mod Copy
-pub mod Exact

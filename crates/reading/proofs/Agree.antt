@@ -1,0 +1,80 @@
+-- One block has one reading: two readings of it under the same marks say the same, but for the card with 11.
+--
+--   one-kind      a corrected block has one kind
+--   reads-agree   two readings of one block under the same marks agree in the answer, but for that card, and in the output
+use mathlib.Core.Logic.{_≢_, _⊎_, inl, inr}
+use mathlib.Core.Path.{_≡_, refl, sym, ap, ap₂, _∙_, subst}
+use mathlib.Core.List.{List}
+use Prim.Native.Nat.{ℕ}
+use Rattle.base.proofs.Tests.{same}
+use Rattle.answer.specs.Answer.{Answer, done, clean, in-chips, in-card, counted, refused, refused-card, but-card}
+use Rattle.code.specs.Block.{changes, OneMember, NoMember, TwoMembers}
+use Rattle.marks.specs.declared.CardMark.{CardMark}
+use Rattle.marks.specs.declared.CardMark.the-variants.{None, Card}
+use Rattle.reading.specs.Allowed.{OfChipKind}
+use Rattle.reading.specs.Reading.{S, OnCard, Reads}
+use Rattle.reading.proofs.Facts.{apart, unchanged}
+
+-- the card that a change not of the chip kind is told by
+one-card : (c : CardMark) (ps b x : List ℕ) (i j : ℕ) → (OfChipKind c ps b x → ⊥) → OnCard c i ps b x → OnCard c j ps b x → i ≡ j
+one-card (Card m) ps b x i j n g h = g ∙ sym h
+one-card None ps b x i j n g h = pick (same i j)
+  where
+    pick : (i ≡ j) ⊎ (i ≢ j) → i ≡ j
+    pick (inl q) = q
+    pick (inr q) = absurd (n (apart ps b x i j q (g .1) (h .1)))
+
+module _ (ls : List ℕ) (c : CardMark) (ps b out : List ℕ) where
+  -- how a corrected block x is told
+  data Kind (x : List ℕ) : Answer → Type 0 where
+    as-clean : x ≡ b → Kind x clean
+    as-chips : (n : ℕ) → x ≢ b → n ≡ changes b x → OfChipKind c ps b x → Kind x (in-chips n)
+    as-card : (j n : ℕ) → n ≡ changes b x → (OfChipKind c ps b x → ⊥) → OnCard c j ps b x → Kind x (in-card j n)
+
+  -- what a reading comes to
+  data Outcome (x : List ℕ) : Answer → Type 0 where
+    corrected : {a : Answer} → OneMember (S ls c ps b) x → Kind x a → Outcome x a
+    none : NoMember (S ls c ps b) → x ≡ out → Outcome x (refused 10)
+    several : (j : ℕ) → TwoMembers (S ls c ps b) → x ≡ out → Outcome x (refused-card 11 j)
+
+  outcome : (a : Answer) (x : List ℕ) → Reads ls c ps b out a x → Outcome x a
+  outcome clean x h = corrected (h .0) (as-clean (h .1))
+  outcome (in-chips n) x h = corrected (h .0) (as-chips n (h .1) (h .2) (h .3))
+  outcome (in-card j n) x h = corrected (h .0) (as-card j n (h .1) (h .2) (h .3))
+  outcome (refused n) x h = subst (λ (k : ℕ). Outcome x (refused k)) (sym (h .0)) (none (h .1) (h .2))
+  outcome (refused-card n j) x h = subst (λ (k : ℕ). Outcome x (refused-card k j)) (sym (h .0)) (several j (h .1) (h .3))
+  outcome done x h = absurd h
+  outcome (counted v w y z u) x h = absurd h
+
+  still : (x : List ℕ) → x ≡ b → OfChipKind c ps b x
+  still x e = subst (OfChipKind c ps b) (sym e) (unchanged c ps b)
+
+  one-kind : (x : List ℕ) (a a′ : Answer) → Kind x a → Kind x a′ → a ≡ a′
+  one-kind x a a′ (as-clean e) (as-clean f) = refl
+  one-kind x a a′ (as-clean e) (as-chips n f k o) = absurd (f e)
+  one-kind x a a′ (as-clean e) (as-card j n k o w) = absurd (o (still x e))
+  one-kind x a a′ (as-chips n f k o) (as-clean e) = absurd (f e)
+  one-kind x a a′ (as-chips n f k o) (as-chips n′ f′ k′ o′) = ap in-chips (k ∙ sym k′)
+  one-kind x a a′ (as-chips n f k o) (as-card j n′ k′ o′ w) = absurd (o′ o)
+  one-kind x a a′ (as-card j n k o w) (as-clean e) = absurd (o (still x e))
+  one-kind x a a′ (as-card j n k o w) (as-chips n′ f k′ o′) = absurd (o o′)
+  one-kind x a a′ (as-card j n k o w) (as-card j′ n′ k′ o′ w′) = ap₂ in-card (one-card c ps b x j j′ o w w′) (k ∙ sym k′)
+
+  two-in-one : (x : List ℕ) → OneMember (S ls c ps b) x → TwoMembers (S ls c ps b) → ⊥
+  two-in-one x o t = t .4 (o .1 (t .0) (t .2) ∙ sym (o .1 (t .1) (t .3)))
+
+  agree : (a a′ : Answer) (x x′ : List ℕ) → Outcome x a → Outcome x′ a′ → (but-card a ≡ but-card a′) × (x ≡ x′)
+  agree a a′ x x′ (corrected o k) (corrected o′ k′) =
+      let e : x′ ≡ x = o .1 x′ (o′ .0) in
+      (ap but-card (one-kind x a a′ k (subst (λ (y : List ℕ). Kind y a′) e k′)), sym e)
+  agree a a′ x x′ (corrected o k) (none n e) = absurd (n x (o .0))
+  agree a a′ x x′ (corrected o k) (several j t e) = absurd (two-in-one x o t)
+  agree a a′ x x′ (none n e) (corrected o k) = absurd (n x′ (o .0))
+  agree a a′ x x′ (none n e) (none n′ e′) = (refl, e ∙ sym e′)
+  agree a a′ x x′ (none n e) (several j t e′) = absurd (n (t .0) (t .2))
+  agree a a′ x x′ (several j t e) (corrected o k) = absurd (two-in-one x′ o t)
+  agree a a′ x x′ (several j t e) (none n e′) = absurd (n (t .0) (t .2))
+  agree a a′ x x′ (several j t e) (several j′ t′ e′) = (refl, e ∙ sym e′)
+
+  pub reads-agree : (a a′ : Answer) (x x′ : List ℕ) → Reads ls c ps b out a x → Reads ls c ps b out a′ x′ → (but-card a ≡ but-card a′) × (x ≡ x′)
+  reads-agree a a′ x x′ h h′ = agree a a′ x x′ (outcome a x h) (outcome a′ x′ h′)

@@ -1,0 +1,77 @@
+-- Invariant: the places passed of card 4 hold the chip sums, and what is before it is as it was.
+use mathlib.Core.Path.{_≡_, refl, _∙_}
+use mathlib.Core.List.{List}
+use lib.Seq.{getD-set-other}
+use Prim.Native.Nat.{ℕ, _+_, _<_, _≤_, _-_}
+use lib.ListN.{length, length-set}
+use borrow.Author.Count.{below-none}
+use Rattle.code.specs.Block.{byte}
+use Rattle.store.specs.Steps.{chip-sum}
+use Rattle.store.proofs.Written.{written}
+use native.Mathlib.Omega.{arith}
+use Rattle.store.proofs.fill.Statement.{statement}
+use Rattle.store.proofs.fill.Tie as tie
+
+abbrev Inv-loop : tie.InvT-loop
+Inv-loop rec out₀ i₀ out i =
+    (i ≤ 9) × (length out ≡ length out₀) × ((p : ℕ) → p < 36 → byte out p ≡ byte out₀ p) × ((k : ℕ) → k < i → byte out (36 + k) ≡ chip-sum rec k)
+
+abbrev μ-loop : tie.MeasureT-loop
+μ-loop rec out₀ i₀ out i = 9 - i
+
+loop-holds : tie.Need-loop-holds Inv-loop μ-loop
+loop-holds c = (omega arith, refl, (λ p h. refl), below-none _)
+
+row-requires : tie.Need-row-requires Inv-loop μ-loop
+row-requires c κs = omega arith
+
+add-out : tie.Need-add-out Inv-loop μ-loop
+add-out c = omega arith
+
+slice-write-out : tie.Need-slice-write-out Inv-loop μ-loop
+slice-write-out c = omega arith
+
+add-i : tie.Need-add-i Inv-loop μ-loop
+add-i c = omega arith
+
+loop-less : tie.Need-loop-less Inv-loop μ-loop
+loop-less c = omega arith
+
+loop-again : tie.Need-loop-again Inv-loop μ-loop
+loop-again c =
+    let l = c .before .before in
+    let s = l .before .before .before in
+    let rec : List ℕ = s .args .rec .now in
+    let out : List ℕ = l .loop .out in
+    let i : ℕ = l .loop .i in
+    let v : ℕ = c .row .result in
+    let h : 36 + i < length out = omega arith in (
+      omega arith,
+      simp length-set (l .loop .inv .1),
+      (λ p g. getD-set-other out (36 + i) p v 0 (λ e. omega arith) ∙ l .loop .inv .2 p g),
+      written (λ k. 36 + k) (λ k x. x ≡ chip-sum rec k) out i v h (λ k g e. omega arith) (l .loop .inv .3) (c .row .ensures),
+    )
+
+same-length : tie.Need-same-length Inv-loop μ-loop
+same-length c = omega arith
+
+returns : tie.Need-returns Inv-loop μ-loop
+returns c =
+    let l = c .before in
+    record { long = l .loop .inv .1; front = l .loop .inv .2; card = λ i h. l .loop .inv .3 i (omega arith) }
+
+pub fill-spec : {M : Type 1} → statement M
+fill-spec =
+    tie.close
+    (tie.spec
+    Inv-loop
+    μ-loop
+    loop-holds
+    row-requires
+    add-out
+    slice-write-out
+    add-i
+    loop-less
+    loop-again
+    same-length
+    returns)

@@ -1,0 +1,64 @@
+-- Each part is a byte of the word.
+use Rattle.sums.specs.Words.{byte-of}
+use borrow.Author.Needs.{needs}
+use Rattle.sums.proofs.rows.Statement.{statement}
+use Rattle.sums.proofs.rows.Tie as tie
+
+part-requires : tie.Need-part-requires
+part-requires c κs = search needs
+
+part-requires-2 : tie.Need-part-requires-2
+part-requires-2 c κs = search needs
+
+part-requires-3 : tie.Need-part-requires-3
+part-requires-3 c κs = search needs
+
+part-requires-4 : tie.Need-part-requires-4
+part-requires-4 c κs = search needs
+
+part-requires-5 : tie.Need-part-requires-5
+part-requires-5 c κs = search needs
+
+part-requires-6 : tie.Need-part-requires-6
+part-requires-6 c κs = search needs
+
+part-requires-7 : tie.Need-part-requires-7
+part-requires-7 c κs = search needs
+
+part-requires-8 : tie.Need-part-requires-8
+part-requires-8 c κs = search needs
+
+returns : tie.Need-returns
+unfolding byte-of
+returns c =
+    let p₆ = c .before in
+    let p₅ = p₆ .before in
+    let p₄ = p₅ .before in
+    let p₃ = p₄ .before in
+    let p₂ = p₃ .before in
+    let p₁ = p₂ .before in
+    let p₀ = p₁ .before in
+    cc (
+      p₀ .part .ensures,
+      p₁ .part2 .ensures,
+      p₂ .part3 .ensures,
+      p₃ .part4 .ensures,
+      p₄ .part5 .ensures,
+      p₅ .part6 .ensures,
+      p₆ .part7 .ensures,
+      c .part8 .ensures,
+    )
+
+pub rows-spec : {M : Type 1} → statement M
+rows-spec =
+    tie.close
+    (tie.spec
+    part-requires
+    part-requires-2
+    part-requires-3
+    part-requires-4
+    part-requires-5
+    part-requires-6
+    part-requires-7
+    part-requires-8
+    returns)

@@ -1,0 +1,47 @@
+-- The words that the sums are made from.
+--
+--   byte-of u i       byte i of the word u, from the lowest
+--   spread-of n x     the n lowest binary digits of x, one to a byte of a word
+--   spread labels     the labels so
+--   Small words       each fits into 64 bits when it is multiplied by a byte
+--   gathered          the sum of byte times word; of spread labels, byte k gathers the bytes whose label has digit k
+--   Gathers           u is that, and what was lent is as before
+--   at-point c n u    the n bytes of u as a polynomial's coefficients, the lowest first, at the point c of the field
+--   reduced v         the remainder of a polynomial of degree 21 at most by the field's modulus
+use mathlib.Core.Path.{_≡_}
+use mathlib.Core.List.{List, [], _∷_}
+use Prim.Native.Nat.{ℕ, zero, suc, _+_, _*_, _/_, _%_, _^_, _<_}
+use lib.ListN.{getD, length}
+use Rattle.field.specs.Field.{_⊕_, _·_, sum, remainder}
+use Rattle.code.specs.Block.{byte}
+
+unfoldable pub byte-of : ℕ → ℕ → ℕ
+byte-of u i = u / 2 ^ (8 * i) % 2 ^ 8
+
+unfoldable pub spread-of : ℕ → ℕ → ℕ
+spread-of zero x = 0
+spread-of (suc n) x = spread-of n (x / 2) * 2 ^ 8 + x % 2
+
+abbrev pub spread : List ℕ → List ℕ
+spread [] = []
+spread (x ∷ labels) = spread-of 8 x ∷ spread labels
+
+-- 255 times 0x0101010101010101 is the largest number of 64 digits
+abbrev pub Small : List ℕ → Type 0
+Small words = (p : ℕ) → p < length words → getD words p 0 < 0x0101010101010102
+
+unfoldable pub gathered : List ℕ → List ℕ → ℕ
+gathered bytes words = sum (length bytes) (λ p. byte bytes p * getD words p 0)
+
+-- (bytes′ and words′ are what was lent, after the call)
+pub record Gathers (bytes words : List ℕ) (u : ℕ) (bytes′ words′ : List ℕ) : Type 0 where
+  pub word : u ≡ gathered bytes words
+  pub bytes-kept : bytes′ ≡ bytes
+  pub words-kept : words′ ≡ words
+
+unfoldable pub at-point : ℕ → ℕ → ℕ → ℕ
+at-point c zero u = 0
+at-point c (suc n) u = (u % 2 ^ 8) ⊕ (c · at-point c n (u / 2 ^ 8))
+
+unfoldable pub reduced : ℕ → ℕ
+reduced v = remainder 8 0x11D 14 v

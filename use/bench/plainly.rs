@@ -1,0 +1,129 @@
+//! plain.rs as C functions of the library's shape.
+
+use crate::{plain, BLOCK};
+use std::slice::{from_raw_parts, from_raw_parts_mut};
+
+/// An answer as the library's code.
+fn code(answer: plain::Answer) -> u32 {
+    match answer {
+        plain::Answer::Clean => 0,
+        plain::Answer::Chips { n } => 1 << 8 | (n as u32) << 24,
+        plain::Answer::Card { card, n } => 2 << 8 | (card as u32) << 16 | (n as u32) << 24,
+        plain::Answer::Refused(number) => number as u32,
+        plain::Answer::None => 10,
+        plain::Answer::Several { card } => 11 | (card as u32) << 16,
+    }
+}
+
+#[no_mangle]
+#[inline(never)]
+pub unsafe extern "C" fn plain_store(
+    rec: *const u8,
+    rec_len: usize,
+    out: *mut u8,
+    out_len: usize,
+) -> u32 {
+    let (rec, out) = unsafe {
+        (
+            from_raw_parts(rec, rec_len),
+            from_raw_parts_mut(out, out_len),
+        )
+    };
+    plain::store(rec, out).err().unwrap_or(0) as u32
+}
+
+#[no_mangle]
+#[inline(never)]
+pub unsafe extern "C" fn plain_read(
+    block: *const u8,
+    block_len: usize,
+    marks: *const u8,
+    marks_len: usize,
+    out: *mut u8,
+    out_len: usize,
+) -> u32 {
+    let (block, marks, out) = unsafe {
+        (
+            from_raw_parts(block, block_len),
+            from_raw_parts(marks, marks_len),
+            from_raw_parts_mut(out, out_len),
+        )
+    };
+    code(plain::read(block, marks, out))
+}
+
+#[no_mangle]
+#[inline(never)]
+pub unsafe extern "C" fn plain_get(
+    bank: *const u8,
+    bank_len: usize,
+    k: usize,
+    marks: *const u8,
+    marks_len: usize,
+    out: *mut u8,
+    out_len: usize,
+) -> u32 {
+    let (bank, marks, out) = unsafe {
+        (
+            from_raw_parts(bank, bank_len),
+            from_raw_parts(marks, marks_len),
+            from_raw_parts_mut(out, out_len),
+        )
+    };
+    match bank.get(BLOCK * k..BLOCK * (k + 1)) {
+        Some(block) => code(plain::read(block, marks, out)),
+        None => 5,
+    }
+}
+
+#[no_mangle]
+#[inline(never)]
+pub unsafe extern "C" fn plain_patrol(
+    bank: *mut u8,
+    bank_len: usize,
+    k: usize,
+    marks: *const u8,
+    marks_len: usize,
+) -> u32 {
+    let (bank, marks) = unsafe {
+        (
+            from_raw_parts_mut(bank, bank_len),
+            from_raw_parts(marks, marks_len),
+        )
+    };
+    let Some(block) = bank.get_mut(BLOCK * k..BLOCK * (k + 1)) else {
+        return 5;
+    };
+    let mut out = [0; BLOCK];
+    let said = code(plain::read(block, marks, &mut out));
+    if said & 0xFF == 0 {
+        block.copy_from_slice(&out);
+    }
+    said
+}
+
+#[no_mangle]
+#[inline(never)]
+pub unsafe extern "C" fn plain_report(
+    bank: *const u8,
+    bank_len: usize,
+    marks: *const u8,
+    marks_len: usize,
+) -> u64 {
+    let (bank, marks) = unsafe {
+        (
+            from_raw_parts(bank, bank_len),
+            from_raw_parts(marks, marks_len),
+        )
+    };
+    match plain::report(bank, marks) {
+        Err(number) => number as u64,
+        Ok(t) => {
+            (t.clean as u64) << 8
+                | (t.chips as u64) << 19
+                | (t.card as u64) << 30
+                | (t.none as u64) << 41
+                | (t.several as u64) << 52
+        }
+    }
+}
