@@ -8,14 +8,15 @@ from collections import Counter
 from kit import ARCHIVE, C_FLAGS, KIT, PAGE, ROOT, InFolder, needs, run
 
 # Registers and instructions beyond the page: x87, MMX, AVX, thread-local
-# storage, what came after SSE2, and ways into a system.
+# storage, what came after SSE2 (pextrw only where it writes memory), and ways
+# into a system.
 BEYOND = re.compile(
     r"%st\b|%mm\d|%[yz]mm|%fs:|%gs:|\tv[a-z]+|\tf[a-z]+ |"
     r"\t(?:pshufb|palignr|pabs|phadd|phsub|psign|pmadd|pmull[dq]|pmov[sz]x|"
     r"pextr[bdq]|pinsr[bdq]|ptest|pblend|blend|round|dpp|insertps|extractps|"
     r"pclmul|aes|gf2p8|crc32|popcnt|lzcnt|tzcnt|andn|bextr|bls|mulx|rorx|sarx|"
-    r"shlx|shrx|pdep|pext[lq]?\b|adcx|adox|movbe|lddqu|movddup|cmpxchg16b|syscall|"
-    r"sysenter|int\b|in\b|out\b|lock|xbegin|rdtsc|cpuid)")
+    r"shlx|shrx|pdep|pext[lq]?\b|pextrw .*\(|adcx|adox|movbe|lddqu|movddup|cmpxchg16b|"
+    r"syscall|sysenter|int\b|in\b|out\b|lock|xbegin|rdtsc|cpuid)")
 
 
 def limits(name):

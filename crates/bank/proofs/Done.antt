@@ -61,7 +61,8 @@ clear-refused bank c e h = by-refused _ c (bank ≡ bank) ((refused c ≡ done) 
 pub put-refused : (bank : List ℕ) (k : ℕ) (rec : List ℕ) (c : ℕ) → put-cause (length bank) k (length rec) ≡ c → c ≢ 0 → PutDone bank k rec (refused c) bank rec
 put-refused bank k rec c e h = record { lent = refl; put = by-refused _ c (bank ≡ bank) _ e h refl }
 
-pub get-refused : (bank : List ℕ) (k : ℕ) (m : Marks) (out : List ℕ) (c : ℕ) → get-cause (length bank) k m (length out) ≡ c → c ≢ 0 → GetDone bank k m out (refused c) bank out
+pub get-refused : (bank : List ℕ) (k : ℕ) (m : Marks) (out : List ℕ) (c : ℕ) → get-cause (length bank) k m (length out) ≡ c → c ≢ 0
+    → GetDone bank k m out (refused c) bank out
 get-refused bank k m out c e h = record { kept = refl; output = by-refused _ c (out ≡ out) _ e h refl }
 
 pub patrol-refused : (bank : List ℕ) (k : ℕ) (m : Marks) (c : ℕ) → patrol-cause (length bank) k m ≡ c → c ≢ 0 → PatrolDone bank k m (refused c) bank
@@ -109,8 +110,17 @@ pub report-done : (bank : List ℕ) (m : Marks) (t : List ℕ) (a : Answer) → 
     → a ≡ counted (getD t 0 0) (getD t 1 0) (getD t 2 0) (getD t 3 0) (getD t 4 0) → ReportDone bank m a bank
 report-done bank m t a e w q = record {
   kept = refl;
-  answer = by-done _ a (Unit {0}) ((f : ℕ → Answer) × EachReads (block bank) (blocks bank) m f × (a ≡ totals f (blocks bank))) e
-      (w .answers, w .reads, q ∙ simp (w .each 0 (omega arith), w .each 1 (omega arith), w .each 2 (omega arith), w .each 3 (omega arith), w .each 4 (omega arith)));
+  answer = by-done _ a (Unit {0}) ((f : ℕ → Answer) × EachReads (block bank) (blocks bank) m f × (a ≡ totals f (blocks bank))) e (
+    w .answers,
+    w .reads,
+    q ∙ simp (
+      w .each 0 (omega arith),
+      w .each 1 (omega arith),
+      w .each 2 (omega arith),
+      w .each 3 (omega arith),
+      w .each 4 (omega arith),
+    ),
+  );
 }
 
 pub no-blocks : (bank : List ℕ) (m : Marks) → CountedBlocks bank m 0 (replicate 5 0)

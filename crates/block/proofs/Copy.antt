@@ -40,7 +40,8 @@ front-more from to at x l h e w = record {
   front =
       ap (λ (n : ℕ). take (n + 9) (putMid at (at + 9 - at) to x)) (sym before)
       ∙ take-append-add (take at to) (x ++ rest) 9
-      ∙ ap₂ (λ (u v : List ℕ). u ++ v) (w .front) (take-at x rest 9 nine ∙ e ∙ ap (λ (n : ℕ). take n (drop at from)) (let q : at + 9 - at ≡ 9 = omega arith in q))
+      ∙ ap₂ (λ (u v : List ℕ). u ++ v) (w .front) (take-at x rest 9 nine ∙ e
+      ∙ ap (λ (n : ℕ). take n (drop at from)) (let q : at + 9 - at ≡ 9 = omega arith in q))
       ∙ sym (take-add at 9 from);
 }
   where

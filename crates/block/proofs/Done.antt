@@ -73,11 +73,17 @@ pub look-refused : (b : List ℕ) (m : Marks) (n : ℕ) → mend-cause (length b
 look-refused b m n e h = record { received = refl; answer = by-refused _ n (Unit {0}) ((x : List ℕ) × ReadsUnder m b [] (refused n) x) e h tt }
 
 pub look-done : (b : List ℕ) (m : Marks) (a : Answer) (o x : List ℕ) → mend-cause (length b) m ≡ 0 → ReadsUnder m b o a x → LookDone b m a b
-look-done b m a o x e w = record { received = refl; answer = by-done _ a (Unit {0}) ((x : List ℕ) × ReadsUnder m b [] a x) e (delivered a x [], deliver m b o a x w []) }
+look-done b m a o x e w = record {
+  received = refl;
+  answer = by-done _ a (Unit {0}) ((x : List ℕ) × ReadsUnder m b [] a x) e
+      (delivered a x [], deliver m b o a x w []);
+}
 
 -- what is written where the block is corrected, and what stays where it is not
-pub written : (m : Marks) (b : List ℕ) (a : Answer) (x : List ℕ) → ReadsUnder m b b a x → (t : Bool) → t ≡ is-corrected a → t ≡ true → (out : List ℕ) → ReadsUnder m b out a x
+pub written : (m : Marks) (b : List ℕ) (a : Answer) (x : List ℕ) → ReadsUnder m b b a x → (t : Bool) → t ≡ is-corrected a → t ≡ true → (out : List ℕ)
+    → ReadsUnder m b out a x
 written m b a x w t e h out = subst (ReadsUnder m b out a) (ap (λ (u : Bool). if u x out) (sym e ∙ h)) (deliver m b b a x w out)
 
-pub left : (m : Marks) (b : List ℕ) (a : Answer) (x : List ℕ) → ReadsUnder m b b a x → (t : Bool) → t ≡ is-corrected a → t ≡ false → (out : List ℕ) → ReadsUnder m b out a out
+pub left : (m : Marks) (b : List ℕ) (a : Answer) (x : List ℕ) → ReadsUnder m b b a x → (t : Bool) → t ≡ is-corrected a → t ≡ false → (out : List ℕ)
+    → ReadsUnder m b out a out
 left m b a x w t e h out = subst (ReadsUnder m b out a) (ap (λ (u : Bool). if u x out) (sym e ∙ h)) (deliver m b b a x w out)

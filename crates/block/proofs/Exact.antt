@@ -68,7 +68,8 @@ module _ (b : List ℕ) (m : Marks) (out out′ : List ℕ) where
 
 pub exactly : ReadsExactly
 unfolding Exact
-exactly b m out a b′ out′ e h = exact b m out out′ a (by-accepted (read-cause (length b) m (length out)) a (out′ ≡ out) (ReadsUnder m b out a out′) e (h .output))
+exactly b m out a b′ out′ e h = exact b m out out′ a (by-accepted (read-cause (length b) m (length out)) a (out′ ≡ out) (ReadsUnder m b out a out′) e
+    (h .output))
 
 pub clean-exactly : CleanExactly
 clean-exactly b m out a b′ out′ bb e h = ((forth, back a w), whole)

@@ -49,7 +49,8 @@ totals-agree m b n f f′ w v = simp (each 0, each 1, each 2, each 3, each 4)
   where
     each : (i : ℕ) → how-many f n i ≡ how-many f′ n i
     each i = tally-ext n (λ k. eqb (class (f k)) i) (λ k. eqb (class (f′ k)) i)
-        (λ k h. ap (λ (c : ℕ). eqb c i) (class-but (f k) ∙ ap class (read-agree m (b k) [] (f k) (f′ k) (w k h .0) (v k h .0) (w k h .1) (v k h .1) .0) ∙ sym (class-but (f′ k))))
+        (λ k h. ap (λ (c : ℕ). eqb c i) (class-but (f k) ∙ ap class (read-agree m (b k) [] (f k) (f′ k) (w k h .0) (v k h .0) (w k h .1) (v k h .1) .0)
+        ∙ sym (class-but (f′ k))))
 
 -- answer, output and book after it
 record Same (a a′ : Answer) (out out′ : List ℕ) (b b′ : Book) : Type 0 where
@@ -69,7 +70,8 @@ call-agree b (put k rec) a a′ out out′ x x′ (o, w) (o′, v) =
     (λ d d′. (ap but-card (d .0 ∙ sym (d′ .0)), d .1 .2 ∙ ap (with-both b k) (sym (d .1 .1 .1 (d′ .1 .0) (d′ .1 .1 .0))) ∙ sym (d′ .1 .2))) in
     record { answer = g .0; output = o ∙ sym o′; book = g .1 }
 call-agree b (get k lent) a a′ out out′ x x′ (e, w) (e′, v) =
-    let g = by-agree (get-cause (size b) k (marks-of b) (length lent)) a a′ lent out out′ _ _ w v (λ d d′. read-agree (marks-of b) (held-at b k) lent a a′ out out′ d d′) in
+    let g = by-agree (get-cause (size b) k (marks-of b) (length lent)) a a′ lent out out′ _ _ w v
+    (λ d d′. read-agree (marks-of b) (held-at b k) lent a a′ out out′ d d′) in
     record { answer = g .0; output = g .1; book = e ∙ sym e′ }
 call-agree b (patrol k) a a′ out out′ x x′ (o, w) (o′, v) =
     let g = by-agree (patrol-cause (size b) k (marks-of b)) a a′ b x x′ _ _ w v

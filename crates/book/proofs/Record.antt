@@ -52,13 +52,15 @@ module _ (n k : ℕ) (lo : 1 ≤ n) (hi : n ≤ 1024) (inside : k < n) where
   }
 
   module _ {rec : List ℕ} {b : Book} (g : Kept n k rec b) where
-    clear-kept : (a : Answer) (b′ : Book) → By (clear-cause (size b)) a (b′ ≡ b) ((a ≡ done) × (b′ ≡ zero-book (many b) (b .beside))) → Kept n k (replicate 34 0) b′
+    clear-kept : (a : Answer) (b′ : Book) → By (clear-cause (size b)) a (b′ ≡ b) ((a ≡ done) × (b′ ≡ zero-book (many b) (b .beside)))
+        → Kept n k (replicate 34 0) b′
     clear-kept a b′ w =
         let e = by-accepted (clear-cause (45 * n)) a (b′ ≡ b) ((a ≡ done) × (b′ ≡ zero-book n (b .beside))) (clear-none n lo hi) (rw (g .held) at w) in
         rw (e .1) (zeros-kept (b .beside))
 
     put-kept : (z j : ℕ) (new : List ℕ) (a : Answer) (b′ : Book)
-        → By z a (b′ ≡ b) ((a ≡ done) × ((x : List ℕ) × OneMember (Stored built-in new) x × (b′ ≡ with-both b j x))) → Kept n k (if (eqb z 0 && eqb j k) new rec) b′
+        → By z a (b′ ≡ b) ((a ≡ done) × ((x : List ℕ) × OneMember (Stored built-in new) x × (b′ ≡ with-both b j x)))
+        → Kept n k (if (eqb z 0 && eqb j k) new rec) b′
     put-kept zero j new a b′ (d, (x, one, e)) = rw e (record {
       held = length-set (b .held) j x ∙ g .held;
       good = length-set (b .good) j x ∙ g .good;
@@ -109,14 +111,16 @@ module _ (b : Book) (k : ℕ) (rec : List ℕ) (lawful : LawfulMarks (marks-of b
   unfolding Fits
   no-card None e h w = e
   no-card (Card j) e h (x, y, sx, sy, ne) =
-      let at : (x : List ℕ) → S built-in (marks-of b .card) (marked-chips (marks-of b)) (held-at b k) x → S built-in (Card j) (marked-chips (marks-of b)) (held-at b k) x =
+      let at : (x : List ℕ) → S built-in (marks-of b .card) (marked-chips (marks-of b)) (held-at b k) x
+      → S built-in (Card j) (marked-chips (marks-of b)) (held-at b k) x =
       λ x s. subst (λ (c : CardMark). S built-in c (marked-chips (marks-of b)) (held-at b k) x) e s in
       absurd (ne (card-one built-in built-in-set (marked-chips (marks-of b)) (few-chips (marks-of b) lawful) (held-at b k) j h x y (at x sx) (at y sy)))
 
   no-chips : TwoMembers Fits → DamageOfChipKind b k → ⊥
   unfolding Fits
   no-chips (x, y, sx, sy, ne) c =
-      let one = chip-one built-in built-in-set (marked-chips (marks-of b)) (few-chips (marks-of b) lawful) (held-at b k) (marks-of b .card) (lawful .card) (good-at b k) member c in
+      let one = chip-one built-in built-in-set (marked-chips (marks-of b)) (few-chips (marks-of b) lawful) (held-at b k) (marks-of b .card)
+      (lawful .card) (good-at b k) member c in
       ne (one .1 x sx ∙ sym (one .1 y sy))
 
   gives : (s : Seen) (out : List ℕ) (a : Answer) → s .said ≡ says a → ReadsUnder (marks-of b) (held-at b k) out a (s .output) → GivesRecord b k rec s

@@ -12,7 +12,8 @@ use mathlib.Core.List.{List, [], _∷_, _++_}
 use mathlib.Core.Logic.{_⊎_, inl, inr}
 use native.Mathlib.Decide.{decLt, ℕ-discrete}
 use native.Mathlib.Omega.{arith}
-use lib.ListN.{length, getD, set, take, drop, replicate, length-append, length-take, length-drop, length-set, length-replicate, getD-replicate, List·getD-append}
+use lib.ListN.{length, getD, set, take, drop, replicate, length-append, length-take, length-drop}
+use lib.ListN.{length-set, length-replicate, getD-replicate, List·getD-append}
 use lib.Seq.{getD-append-add, getD-take, getD-drop, getD-set-same, getD-set-other}
 use Rattle.answer.specs.Answer.{Answer, done, clean, in-chips, in-card, counted, refused, refused-card, By}
 use Rattle.answer.proofs.Causes.{by-map}
@@ -30,7 +31,8 @@ use Rattle.reading.proofs.Marked.{few-chips}
 use Rattle.reading.proofs.Exists.{reads-exist}
 use Rattle.bank.specs.Calls.{blocks, block, with-block, clear-cause, put-cause, get-cause, patrol-cause, report-cause}
 use Rattle.bank.specs.Calls.{ClearDone, PutDone, GetDone, PatrolDone, ReportDone, EachReads, totals}
-use Rattle.book.specs.Book.{Call, clear, put, get, patrol, report, mark, Entry, call, hit, State, says, nothing-said, Seen, state, seen, beside-of, fresh-state}
+use Rattle.book.specs.Book.{Call, clear, put, get, patrol, report, mark, Entry, call, hit}
+use Rattle.book.specs.Book.{State, says, nothing-said, Seen, state, seen, beside-of, fresh-state}
 use Rattle.book.specs.Book.{EntryDone, Ran, Bytes, Possible, AllPossible, AnyList}
 use Rattle.book.proofs.Whole.{output-long}
 use Rattle.book.proofs.Causes.{put-none, get-none, patrol-none, report-none}
@@ -144,15 +146,25 @@ module _ (n : ℕ) (σ : State) (f : Fine n (σ .bank)) where
       let r = either (Fine n) (put-cause (length (σ .bank)) k (length rec)) (σ .bank)
       (λ a y. (a ≡ done) × ((x : List ℕ) × OneMember (Stored built-in rec) x × (y ≡ with-block (σ .bank) k x))) f (λ z.
       let w = put-none n k (length rec) (rw (f .long) at z) in
-      let s = stored-exists built-in built-in-set rec (w .0) (λ p l. h p (subst (λ (i : ℕ). p < i) (sym (w .0)) l)) in
-      (done, with-block (σ .bank) k (s .0), (refl, (s .0, s .1, refl)), fine-with n k (σ .bank) (w .1) f (s .0) (s .1 .0 .block .long) (block-bytes (s .0) (s .1 .0 .block)))) in
+      let s = stored-exists built-in built-in-set rec (w .0) (λ p l. h p (subst (λ (i : ℕ). p < i) (sym (w .0)) l)) in (
+        done,
+        with-block (σ .bank) k (s .0),
+        (refl, (s .0, s .1, refl)),
+        fine-with n k (σ .bank) (w .1) f (s .0) (s .1 .0 .block .long)
+            (block-bytes (s .0) (s .1 .0 .block)),
+      )) in
       record { sees = seen (says (r .0)) [] (state (r .1) (σ .beside)); done = (r .0, r .1, rec, record { lent = refl; put = r .2 }, refl); fine = r .3 }
   call-runs (get k out) h =
       let r = either (λ o. Unit {0}) (get-cause (length (σ .bank)) k m (length out)) out (λ a x. ReadsUnder m (block (σ .bank) k) out a x) tt (λ z.
       let w = get-none n k m (length out) (rw (f .long) at z) in
       let s = reading m (block (σ .bank) k) out (w .2) (part-block n k (σ .bank) (w .1) f) in
       (s .0, s .1, s .2, tt)) in
-      record { sees = seen (says (r .0)) (r .1) (state (σ .bank) (σ .beside)); done = (r .0, σ .bank, r .1, record { kept = refl; output = r .2 }, refl); fine = f }
+      record {
+        sees = seen (says (r .0)) (r .1) (state (σ .bank) (σ .beside));
+        done =
+            (r .0, σ .bank, r .1, record { kept = refl; output = r .2 }, refl);
+        fine = f;
+      }
   call-runs (patrol k) h =
       let r = either (Fine n) (patrol-cause (length (σ .bank)) k m) (σ .bank)
       (λ a y. (x : List ℕ) × ReadsUnder m (block (σ .bank) k) (block (σ .bank) k) a x × (y ≡ with-block (σ .bank) k x)) f (λ z.
@@ -202,8 +214,12 @@ any-list n es h = runs-all n (fresh-state n) (fine-zeros n (45 * n) refl) es h
 
 -- such lists there are: one with every kind of entry, at its limits
 pub all-kinds : AllPossible 1024
-    (call clear ∷ call (put 1023 (replicate 34 255)) ∷ call (get 1023 (replicate 45 0)) ∷ call (patrol 1023) ∷ call report ∷ call (mark LiftCard) ∷ hit 46079 255 ∷ [])
+    (call clear ∷ call (put 1023 (replicate 34 255)) ∷ call (get 1023 (replicate 45 0)) ∷ call (patrol 1023) ∷ call report ∷ call
+    (mark LiftCard) ∷ hit 46079 255 ∷ [])
 all-kinds = (
   tt,
-  ((λ p h. subst (λ (v : ℕ). v < 256) (sym (getD-replicate 34 p 255 0 (rw length-replicate at h))) (omega arith)), (tt, (tt, (tt, (tt, ((omega arith, omega arith), tt)))))),
+  (
+    (λ p h. subst (λ (v : ℕ). v < 256) (sym (getD-replicate 34 p 255 0 (rw length-replicate at h))) (omega arith)),
+    (tt, (tt, (tt, (tt, ((omega arith, omega arith), tt))))),
+  ),
 )

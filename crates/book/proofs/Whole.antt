@@ -22,8 +22,10 @@ use Rattle.code.specs.Labels.{built-in}
 use Rattle.reading.specs.Reading.{ReadsUnder}
 use Rattle.bank.specs.Calls.{blocks, block, with-block, clear-cause, put-cause, get-cause, patrol-cause, report-cause}
 use Rattle.bank.specs.Calls.{ClearDone, PutDone, GetDone, PatrolDone, ReportDone, EachReads, totals}
-use Rattle.book.specs.Book.{Call, clear, put, get, patrol, report, mark, Entry, call, hit, Beside, State, Said, says, nothing-said, Seen, state, seen, beside-of, fresh-state}
-use Rattle.book.specs.Book.{CallDone, EntryDone, Ran, Book, zeros, zero-book, fresh-book, flat, state-of, many, size, marks-of, held-at, with-marks, with-held, with-both}
+use Rattle.book.specs.Book.{Call, clear, put, get, patrol, report, mark, Entry, call, hit}
+use Rattle.book.specs.Book.{Beside, State, Said, says, nothing-said, Seen, state, seen, beside-of, fresh-state}
+use Rattle.book.specs.Book.{CallDone, EntryDone, Ran, Book, zeros, zero-book, fresh-book, flat, state-of}
+use Rattle.book.specs.Book.{many, size, marks-of, held-at, with-marks, with-held, with-both}
 use Rattle.book.specs.Book.{CallSays, Step, Booked, WholeList}
 use Rattle.book.proofs.Blocks.{EachLong, each-replicate, each-set, each-at, length-flat, replicate-flat, block-flat, patch-flat, hit-flat}
 use Rattle.book.proofs.Causes.{put-none, get-none, patrol-none}
@@ -75,24 +77,42 @@ module _ (b : Book) (long : EachLong 45 (b .held)) where
       let n = clear-cause (size b) in
       let v = settled n a (state bank (b .beside)) _ (λ b′. (a ≡ done) × (b′ ≡ zero-book (many b) (b .beside)))
       (by-map n a _ _ _ _ (unchanged bank) (λ z d. d) (rw size-flat at w))
-      (λ z d. (zero-book (many b) (b .beside), (d .0, refl), landed (zero-book (many b) (b .beside)) bank (d .1 ∙ replicate-flat 45 (many b) 0) (each-replicate 45 (many b) zeros refl))) in
+      (λ z d. (
+        zero-book (many b) (b .beside),
+        (d .0, refl),
+        landed (zero-book (many b) (b .beside)) bank (d .1 ∙ replicate-flat 45 (many b) 0)
+            (each-replicate 45 (many b) zeros refl),
+      )) in
       (v .0, (refl, v .1), v .2)
 
-  put-next : (k : ℕ) (rec : List ℕ) (a : Answer) (bank rec′ : List ℕ) → PutDone (flat (b .held)) k rec a bank rec′ → Next (put k rec) a [] (state bank (b .beside))
+  put-next : (k : ℕ) (rec : List ℕ) (a : Answer) (bank rec′ : List ℕ) → PutDone (flat (b .held)) k rec a bank rec′
+      → Next (put k rec) a [] (state bank (b .beside))
   unfolding Next
   put-next k rec a bank rec′ w =
       let n = put-cause (size b) k (length rec) in
       let v = settled n a (state bank (b .beside)) _ (λ b′. (a ≡ done) × ((x : List ℕ) × OneMember (Stored built-in rec) x × (b′ ≡ with-both b k x)))
       (by-map n a _ _ _ _ (unchanged bank) (λ z d. d) (rw size-flat at (w .put)))
-      (λ z d. let x = d .1 .0 in let one = d .1 .1 in
-      (with-both b k x, (d .0, (x, one, refl)), landed (with-both b k x) bank (put-at k (put-none (many b) k (length rec) z .1) x bank (d .1 .2)) (each-set 45 (b .held) k x long (one .0 .block .long)))) in
+      (λ z d. let x = d .1 .0 in let one = d .1 .1 in (
+        with-both b k x,
+        (d .0, (x, one, refl)),
+        landed (with-both b k x) bank (put-at k (put-none (many b) k (length rec) z .1) x bank (d .1 .2))
+            (each-set 45 (b .held) k x long (one .0 .block .long)),
+      )) in
       (v .0, (refl, v .1), v .2)
 
-  get-next : (k : ℕ) (out : List ℕ) (a : Answer) (bank out′ : List ℕ) → GetDone (flat (b .held)) k (marks-of b) out a bank out′ → Next (get k out) a out′ (state bank (b .beside))
+  get-next : (k : ℕ) (out : List ℕ) (a : Answer) (bank out′ : List ℕ) → GetDone (flat (b .held)) k (marks-of b) out a bank out′
+      → Next (get k out) a out′ (state bank (b .beside))
   unfolding Next
   get-next k out a bank out′ w =
-      let n = get-cause (size b) k (marks-of b) (length out) in
-      (b, (refl, by-map n a _ _ _ _ (λ u. u) (λ z d. rw (read-at k (get-none (many b) k (marks-of b) (length out) z .1)) at d) (rw size-flat at (w .output))), landed b bank (w .kept) long)
+      let n = get-cause (size b) k (marks-of b) (length out) in (
+        b,
+        (
+          refl,
+          by-map n a _ _ _ _ (λ u. u) (λ z d. rw (read-at k (get-none (many b) k (marks-of b) (length out) z .1)) at d)
+              (rw size-flat at (w .output)),
+        ),
+        landed b bank (w .kept) long,
+      )
 
   patrol-next : (k : ℕ) (a : Answer) (bank : List ℕ) → PatrolDone (flat (b .held)) k (marks-of b) a bank → Next (patrol k) a [] (state bank (b .beside))
   unfolding PatrolDone Next
@@ -101,16 +121,28 @@ module _ (b : Book) (long : EachLong 45 (b .held)) where
       let v = settled n a (state bank (b .beside)) _ (λ b′. (x : List ℕ) × ReadsUnder (marks-of b) (held-at b k) (held-at b k) a x × (b′ ≡ with-held b k x))
       (by-map n a _ _ _ _ (unchanged bank) (λ z d. d) (rw size-flat at w))
       (λ z d. let inside = patrol-none (many b) k (marks-of b) z .0 in
-      let r = rw (read-at k inside) at (d .1) in
-      (with-held b k (d .0), (d .0, r, refl), landed (with-held b k (d .0)) bank (put-at k inside (d .0) bank (d .2)) (each-set 45 (b .held) k (d .0) long (output-long (marks-of b) (held-at b k) (held-at b k) a (d .0) r (each-at 45 (b .held) k long inside))))) in
+      let r = rw (read-at k inside) at (d .1) in (
+        with-held b k (d .0),
+        (d .0, r, refl),
+        landed (with-held b k (d .0)) bank (put-at k inside (d .0) bank (d .2))
+            (each-set 45 (b .held) k (d .0) long (output-long (marks-of b) (held-at b k) (held-at b k) a (d .0) r (each-at 45 (b .held) k long inside))),
+      )) in
       (v .0, (refl, v .1), v .2)
 
   report-next : (a : Answer) (bank : List ℕ) → ReportDone (flat (b .held)) (marks-of b) a bank → Next report a [] (state bank (b .beside))
   unfolding Next
   report-next a bank w =
       let n = report-cause (size b) (marks-of b) in
-      let e : size b / 45 ≡ many b = omega arith in
-      (b, (refl, refl, by-map n a _ _ _ _ (λ u. u) (λ z d. (d .0, (λ k h. rw (read-at k h) at (d .1 k (rw e h))), rw e at (d .2))) (rw size-flat at (w .answer))), landed b bank (w .kept) long)
+      let e : size b / 45 ≡ many b = omega arith in (
+        b,
+        (
+          refl,
+          refl,
+          by-map n a _ _ _ _ (λ u. u) (λ z d. (d .0, (λ k h. rw (read-at k h) at (d .1 k (rw e h))), rw e at (d .2)))
+              (rw size-flat at (w .answer)),
+        ),
+        landed b bank (w .kept) long,
+      )
 
   mark-next : (c : MarkCall) (a : Answer) (m : Marks) → MarkDone (marks-of b) c a m → Next (mark c) a [] (state (flat (b .held)) (beside-of m))
   unfolding MarkDone Next
@@ -118,7 +150,14 @@ module _ (b : Book) (long : EachLong 45 (b .held)) where
       let n = mark-cause (marks-of b) c in
       let v = settled n a (state (flat (b .held)) (beside-of m)) _ (λ b′. (a ≡ done) × (b′ ≡ with-marks b (marked (marks-of b) c)))
       (by-map n a _ _ _ _ (λ u. ap (λ (x : Marks). state (flat (b .held)) (beside-of x)) u) (λ z d. d) w)
-      (λ z d. (with-marks b (marked (marks-of b) c), (d .0, refl), record { state = ap (λ (x : Marks). state (flat (b .held)) (beside-of x)) (d .1); long = long })) in
+      (λ z d. (
+        with-marks b (marked (marks-of b) c),
+        (d .0, refl),
+        record {
+          state = ap (λ (x : Marks). state (flat (b .held)) (beside-of x)) (d .1);
+          long = long;
+        },
+      )) in
       (v .0, (refl, v .1), v .2)
 
   -- byte j of block k is set
@@ -151,7 +190,8 @@ module _ (b : Book) (long : EachLong 45 (b .held)) where
       rw e (with-held b (i / 45) (set (held-at b (i / 45)) (i % 45) x), record { says = (refl, refl, refl); after = n .state }, n .long)
 
 -- ---- any list
-whole-from : (b : Book) → EachLong 45 (b .held) → (σ : State) → σ ≡ state-of b → (es : List Entry) (ss : List Seen) → Ran σ es ss → (b′ : Book) × Booked b es ss b′
+whole-from : (b : Book) → EachLong 45 (b .held) → (σ : State) → σ ≡ state-of b → (es : List Entry) (ss : List Seen) → Ran σ es ss
+    → (b′ : Book) × Booked b es ss b′
 whole-from b long σ i [] [] Ran.end = (b, Booked.end)
 whole-from b long σ i (e ∷ es) (s ∷ ss) (Ran.then c r) =
     let n = step b long e s (subst (λ (τ : State). EntryDone τ e s) i c) in

@@ -75,7 +75,8 @@ CallDone σ clear s = (a : Answer) × (bank′ : List ℕ) × ClearDone (σ .ban
 CallDone σ (put k rec) s =
     (a : Answer) × (bank′ : List ℕ) × (rec′ : List ℕ) × PutDone (σ .bank) k rec a bank′ rec′ × (s ≡ seen (says a) [] (state bank′ (σ .beside)))
 CallDone σ (get k out) s =
-    (a : Answer) × (bank′ : List ℕ) × (out′ : List ℕ) × GetDone (σ .bank) k (σ .beside .marks) out a bank′ out′ × (s ≡ seen (says a) out′ (state bank′ (σ .beside)))
+    (a : Answer) × (bank′ : List ℕ) × (out′ : List ℕ) × GetDone (σ .bank) k (σ .beside .marks) out a bank′ out′
+    × (s ≡ seen (says a) out′ (state bank′ (σ .beside)))
 CallDone σ (patrol k) s =
     (a : Answer) × (bank′ : List ℕ) × PatrolDone (σ .bank) k (σ .beside .marks) a bank′ × (s ≡ seen (says a) [] (state bank′ (σ .beside)))
 CallDone σ report s =

@@ -91,7 +91,8 @@ module _ (ls : List ℕ) (ok : LabelSet ls) (j : ℕ) (hj : j < 5) (b : List ℕ
       → closed ls j (p ∷ []) b ≡ block-of (fill j (patch (byte b) p e))
   unfolding patch over squared
   closed-one o e he fit h =
-      closed-by ls ok j hj b bb (p ∷ []) o (λ r. if (eqb r p) e 0) (λ r. if-below 8 (eqb r p) e 0 he (omega arith)) (λ r n. elsewhere r p e (λ z. n (inl z))) each .1
+      closed-by ls ok j hj b bb (p ∷ []) o (λ r. if (eqb r p) e 0) (λ r. if-below 8 (eqb r p) e 0 he (omega arith))
+      (λ r n. elsewhere r p e (λ z. n (inl z))) each .1
     where
       c : ℕ
       c = entry ls j p

@@ -43,20 +43,25 @@ module _ (ls : List ℕ) (ok : LabelSet ls) (rec : List ℕ) (lr : length rec �
 
   -- the record, and zeros where the check bytes are to stand
   with-zeros : ((p : ℕ) → p < 34 → byte rec p < 256) → Block (rec ++ replicate 11 0)
-  with-zeros h = record { long = length-append rec (replicate 11 0) ∙ (let e : length rec + 11 ≡ 45 = omega (arith, lr) in e); bytes = λ p g. at p (decLt p 34) g }
+  with-zeros h = record {
+    long = length-append rec (replicate 11 0) ∙ (let e : length rec + 11 ≡ 45 = omega (arith, lr) in e);
+    bytes = λ p g. at p (decLt p 34) g;
+  }
     where
       at : (p : ℕ) → Dec (p < 34) → p < 45 → byte (rec ++ replicate 11 0) p < 256
       at p (yes l) g = subst (λ (v : ℕ). v < 256) (sym (List·getD-append rec (replicate 11 0) 0 p (omega (arith, lr)))) (h p l)
       at p (no n) g =
           let e : p ≡ length rec + (p - 34) = omega (arith, lr) in
           subst (λ (v : ℕ). v < 256)
-          (sym (ap (byte (rec ++ replicate 11 0)) e ∙ getD-append-add rec (replicate 11 0) (p - 34) 0 ∙ getD-replicate 11 (p - 34) 0 0 (omega arith))) (omega arith)
+          (sym (ap (byte (rec ++ replicate 11 0)) e ∙ getD-append-add rec (replicate 11 0) (p - 34) 0 ∙ getD-replicate 11 (p - 34) 0 0 (omega arith)))
+          (omega arith)
 
   pub stored-exists : ((p : ℕ) → p < 34 → byte rec p < 256) → (x : List ℕ) × OneMember (Stored ls rec) x
   stored-exists h =
       let l = rec ++ replicate 11 0 in
       let x = closed ls 4 checks l in
-      let r = reached ls ok 4 (omega arith) l (with-zeros h) checks (beside-two 4 34 35 (omega arith) (omega arith) (λ e. omega arith) (λ e. omega arith) (λ e. omega arith))
+      let r = reached ls ok 4 (omega arith) l (with-zeros h) checks
+      (beside-two 4 34 35 (omega arith) (omega arith) (λ e. omega arith) (λ e. omega arith) (λ e. omega arith))
       (subst T (sym (fits-two ls 4 34 35 [] l)) tt) in
       let s = stored l (λ p g. List·getD-append rec (replicate 11 0) 0 p (omega (arith, lr))) x r in
       (x, (s, λ y t. stored-alike ls ok rec y x t s))

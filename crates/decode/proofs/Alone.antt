@@ -7,7 +7,7 @@
 --   card-answers                   the answer, where one card fits
 use mathlib.Core.Logic.{_≢_, _⊎_, inl, inr}
 use mathlib.Core.Path.{_≡_, refl, sym, ap, ap₂, _∙_, subst}
-use mathlib.Core.Bool.{Bool, true, false, _&&_, not}
+use mathlib.Core.Bool.{Bool, true, false, _&&_}
 use mathlib.Core.List.{List, []}
 use Prim.Native.Nat.{ℕ, _+_, _<_, _≤_}
 use native.Mathlib.Omega.{arith}
@@ -25,7 +25,7 @@ use Rattle.marks.specs.declared.CardMark.the-variants.{None}
 use Rattle.sums.specs.Words.{spread, gathered, at-point}
 use Rattle.sums.specs.Sums.{rows-of}
 use Rattle.sums.specs.declared.Sums.{Sums}
-use Rattle.sums.proofs.Syndrome.{card-part, reduced-sums}
+use Rattle.sums.proofs.Syndrome.{reduced-sums}
 use Rattle.change.specs.Change.{applied, nonzero-at, places}
 use Rattle.change.specs.declared.Change.{Change}
 use Rattle.reading.specs.Allowed.{ChipKind}
@@ -42,7 +42,7 @@ use Rattle.decode.proofs.Kind.{formed}
 use Rattle.decode.proofs.Cards.{to-keep, passed, first-found, second-found, not-chips, card-reads, chips-reads}
 
 pub sums-at : (ls : List ℕ) → LabelSet ls → (s : Sums) (j : ℕ) → j < 5 → (words : List ℕ) → words ≡ spread ls
-    → (u : ℕ) → u ≡ gathered (rows-of s) (card-part words j) → SumsAt ls s j (s .once ⊕ at-point 2 8 u) (s .squared ⊕ at-point 4 8 u)
+    → (u : ℕ) → u ≡ gathered (rows-of s) 0 words j → SumsAt ls s j (s .once ⊕ at-point 2 8 u) (s .squared ⊕ at-point 4 8 u)
 sums-at ls ok s j hj words w u e b k = reduced-sums ls b ok (k .block) s (k .sums) j hj words w u e
 
 sum-test : (a b : ℕ) → eqb (b ⊕ a) 0 ≡ eqb a b

@@ -98,7 +98,8 @@ module _ (ls : List ℕ) (ok : LabelSet ls) (ps : List ℕ) (few : Few rules ps)
       (to-keep ls j (beside-chips ps f) b x y)))
 
   pub found-answers : (f : ℕ) → f < 45 → (d : Change) → Solves ls (rows-of s) j (keep j (beside-chips ps f)) t₁ t₂ d
-      → (kind : Kind) → kind ≡ card-kind j (tally 9 (nonzero-at (d .rows))) (places d) → Answers ls (Card j) ps s (record { reading = Corrected kind; change = d })
+      → (kind : Kind) → kind ≡ card-kind j (tally 9 (nonzero-at (d .rows))) (places d)
+      → Answers ls (Card j) ps s (record { reading = Corrected kind; change = d })
   found-answers f hf d v kind q =
       subst (λ (x : Kind). Answers ls (Card j) ps s (record { reading = Corrected x; change = d })) (sym q)
       (correction ls (Card j) ps s (card-kind j (tally 9 (nonzero-at (d .rows))) (places d)) d

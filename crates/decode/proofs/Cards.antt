@@ -27,7 +27,7 @@ use Rattle.reading.specs.Allowed.{further, ChipKind}
 use Rattle.reading.specs.Reading.{S, reading-answer, Reads}
 use Rattle.reading.specs.declared.Reading.the-variants.{Corrected}
 use Rattle.reading.proofs.Searches.{covered, covers}
-use Rattle.reading.proofs.Facts.{chip-one, apart}
+use Rattle.reading.proofs.Facts.{chip-one, apart, reaches}
 use Rattle.decode.specs.Equations.{Within}
 use Rattle.decode.specs.Search.{strays, chips-kind, NoneBut, Looked}
 use Rattle.decode.proofs.Kind.{formed, chip-yes, chip-no}
@@ -98,7 +98,7 @@ module _ (ls : List ℕ) (ok : LabelSet ls) (ps : List ℕ) (few : Few rules ps)
       λ e. n (apart ps b y card j (λ z. omega (arith, below)) (q .only)
           (subst (λ (z : List ℕ). Reached ls j ps b z) (sym e) r .only)),
     ),
-    (omega arith, (y, q .block, q .lawful, q .only)),
+    reaches ls ps b card (omega arith) y q,
   )
 
   -- ---- the answers

@@ -153,7 +153,8 @@ module _ (ls b z : List ℕ) (j : ℕ) (hj : j < 5) (t₁ t₂ : ℕ) (known : K
         ∙ bump-rows (patch (byte b) p e) z′ q f (o .0 .2 .0) (ap length ez ∙ length-set z (p % 9) (getD z (p % 9) 0 ⊕ e) ∙ nine)
         (λ i l. ap (λ (y : List ℕ). getD y i 0) ez ∙ bump-rows (byte b) z p e (o .0 .0) nine (known .rows) i l) i l)
         ∙ sym (closed-two ls (known .set) j hj b (known .block) p q o e f he hf
-        (ee ∙ ap₂ (λ (x y : ℕ). x ⊕ (entry ls j q · y)) (known .sums .squared) (known .sums .once)) (ef ∙ ap (λ (x : ℕ). x ⊕ (entry ls j p · e)) (known .sums .once)))
+        (ee ∙ ap₂ (λ (x y : ℕ). x ⊕ (entry ls j q · y)) (known .sums .squared) (known .sums .once))
+        (ef ∙ ap (λ (x : ℕ). x ⊕ (entry ls j p · e)) (known .sums .once)))
 
 -- ---- the change that reaches a lawful block
 module _ (ls z : List ℕ) (j : ℕ) (hj : j < 5) (t₁ t₂ : ℕ) where

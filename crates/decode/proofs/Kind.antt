@@ -101,7 +101,8 @@ module _ (d : Change) (j : ℕ) (hj : j < 5) (qs : List ℕ) (w : Within j qs d)
     pub card-kept : tally 9 (nonzero-at (d .rows)) ≡ 0 → CardChanged j b (applied b d) → ⊥
     card-kept h (p, hp, on, ne) =
         let z = tally-none (nonzero-at (d .rows)) 9 h (p % 9) (omega arith) in
-        ne (same-at b d l p hp (on-card d formed p (on ∙ sym (w .card)) ∙ eqb-true (getD (d .rows) (p % 9) 0) 0 (not-false (eqb (getD (d .rows) (p % 9) 0) 0) z)))
+        ne (same-at b d l p hp (on-card d formed p (on ∙ sym (w .card))
+        ∙ eqb-true (getD (d .rows) (p % 9) 0) 0 (not-false (eqb (getD (d .rows) (p % 9) 0) 0) z)))
 
     -- ---- the chip kind, where the chips off the card are marked
     module _ (ps : List ℕ) (marked : (p : ℕ) → In p qs → In p ps) where
@@ -146,8 +147,12 @@ module _ (d : Change) (j : ℕ) (hj : j < 5) (qs : List ℕ) (w : Within j qs d)
           pick (inl z) =
               ([], omega arith, λ p hp. sort [] p hp (λ q e. absurd (clash (stray d ps (p % 9)) e (tally-none (stray d ps) 9 z (p % 9) (omega arith)))))
           pick (inr n) =
-              let v = tally-one (stray d ps) 9 (omega (arith, further-one (length ps))) in
-              ((9 * d .card + v .0) ∷ [], omega (arith, h, n), λ p hp. sort ((9 * d .card + v .0) ∷ []) p hp (λ q e. inl (at (v .0) p q (v .1 (p % 9) (omega arith) e))))
+              let v = tally-one (stray d ps) 9 (omega (arith, further-one (length ps))) in (
+                (9 * d .card + v .0) ∷ [],
+                omega (arith, h, n),
+                λ p hp. sort ((9 * d .card + v .0) ∷ []) p hp
+                    (λ q e. inl (at (v .0) p q (v .1 (p % 9) (omega arith) e))),
+              )
             where
               at : (f p : ℕ) → p / 9 ≡ d .card → p % 9 ≡ f → p ≡ 9 * d .card + f
               at f p q e = omega arith

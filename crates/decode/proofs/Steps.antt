@@ -109,7 +109,8 @@ module _ (ls : List ℕ) (set : LabelSet ls) (j : ℕ) (hj : j < 5) (t₁ t₂ v
   -- the sums are a multiple of chip p's column exactly where its entry is v
   pub is-wanted : (p : ℕ) → t₂ ≡ entry ls j p · t₁ → entry ls j p ≡ v
   is-wanted p e =
-      quot-only 8 _·_ field t₂ t₁ (entry ls j p) h₁ (entry-lt ls set j p) n (field .comm t₁ (entry ls j p) ∙ sym e) ∙ sym (quot-only 8 _·_ field t₂ t₁ v h₁ hv n q)
+      quot-only 8 _·_ field t₂ t₁ (entry ls j p) h₁ (entry-lt ls set j p) n (field .comm t₁ (entry ls j p) ∙ sym e)
+      ∙ sym (quot-only 8 _·_ field t₂ t₁ v h₁ hv n q)
 
   pub further-off : (p : ℕ) → p < 45 → entry ls j p ≡ v → Further ls j t₁ t₂ p
   further-off p hp e = record {

@@ -1,15 +1,13 @@
 -- A turn of the search over cards, with marked chips.
 --
---   words-long, words-small   the words spread from labels
 --   sums-by                   the reduced sums, as the code adds them
 --   few-enough, too-many      the test of the chip kind, as the code makes it
 --   unfit, found-chips, found-card, second-card   what card j adds: nothing, a block by chips, a first or a second block that is not
 --   card-answers              the answer, where one card reaches a block
-use mathlib.Core.Path.{_≡_, refl, sym, ap, ap₂, _∙_, subst}
+use mathlib.Core.Path.{_≡_, sym, ap, _∙_, subst}
 use mathlib.Core.Bool.{Bool, true, false}
 use mathlib.Core.List.{List}
 use Prim.Native.Nat.{ℕ, _+_, _<_, _≤_}
-use native.Mathlib.Omega.{arith}
 use lib.Dec.{leb}
 use lib.ListN.{length}
 use borrow.Author.Tests.{leb-true, leb-false}
@@ -22,11 +20,9 @@ use Rattle.marks.specs.Marks.{marked-chips, LawfulMarks}
 use Rattle.marks.specs.declared.CardMark.the-variants.{None}
 use Rattle.marks.specs.declared.Marks.{Marks}
 use Rattle.marks.proofs.Laws.{chips-counted}
-use Rattle.sums.specs.Words.{spread, Small, gathered, at-point}
+use Rattle.sums.specs.Words.{spread, gathered, at-point}
 use Rattle.sums.specs.Sums.{rows-of, ReducedSums}
 use Rattle.sums.specs.declared.Sums.{Sums}
-use Rattle.sums.proofs.Points.{spread-length, spread-small}
-use Rattle.sums.proofs.Syndrome.{card-part}
 use Rattle.change.specs.Change.{applied, places}
 use Rattle.change.specs.declared.Change.{Change}
 use Rattle.reading.specs.Allowed.{further}
@@ -43,17 +39,11 @@ use Rattle.decode.proofs.Kind.{formed}
 use Rattle.decode.proofs.Alone.{sums-at}
 use Rattle.decode.proofs.Cards.{from-keep, to-keep, first-found, second-found, not-chips, card-reads, chips-reads}
 
-pub words-long : (ls words : List ℕ) → LabelSet ls → words ≡ spread ls → length words ≡ 45
-words-long ls words ok w = ap length w ∙ spread-length ls ∙ ok .bytes .long
-
-pub words-small : (ls words : List ℕ) → words ≡ spread ls → Small words
-words-small ls words w = subst Small (sym w) (spread-small ls)
-
 pub sums-by : (ls : List ℕ) → LabelSet ls → (s : Sums) (j : ℕ) → j < 5 → (words : List ℕ) → words ≡ spread ls → (z : List ℕ) → z ≡ rows-of s
-    → (u a c t₁ t₂ : ℕ) → u ≡ gathered z (card-part words j) → a ≡ at-point 2 8 u → c ≡ at-point 4 8 u → t₁ ≡ s .once ⊕ a → t₂ ≡ s .squared ⊕ c
+    → (u a c t₁ t₂ : ℕ) → u ≡ gathered z 0 words j → a ≡ at-point 2 8 u → c ≡ at-point 4 8 u → t₁ ≡ s .once ⊕ a → t₂ ≡ s .squared ⊕ c
     → SumsAt ls s j t₁ t₂
 sums-by ls ok s j hj words w z ez u a c t₁ t₂ eu ea ec e₁ e₂ b k =
-    let h = sums-at ls ok s j hj words w u (eu ∙ ap (λ (y : List ℕ). gathered y (card-part words j)) ez) b k in
+    let h = sums-at ls ok s j hj words w u (eu ∙ ap (λ (y : List ℕ). gathered y 0 words j) ez) b k in
     subst (λ (x : ℕ). ReducedSums ls b j x t₂) (sym (e₁ ∙ ap (λ (x : ℕ). s .once ⊕ x) ea))
     (subst (ReducedSums ls b j (s .once ⊕ at-point 2 8 u)) (sym (e₂ ∙ ap (λ (x : ℕ). s .squared ⊕ x) ec)) h)
 

@@ -4,17 +4,15 @@
 // and two cards that are not of the chip kind reach different blocks, so that no block is compared with another. The block itself is not
 // looked at: what is said holds for every block with these sums.
 ghost use mathlib.Core.Path.{_≡_};
-ghost use mathlib.Core.List.{List, []};
-ghost use Prim.Native.Nat.{ℕ, _<_};
-ghost use lib.ListN.{length};
+ghost use mathlib.Core.List.{[]};
+ghost use Prim.Native.Nat.{_<_};
 ghost use Rattle.base.specs.Base.{tally};
-ghost use Rattle.code.specs.Labels.{LabelSet};
+ghost use Rattle.code.specs.Labels.{built-in, LabelSet};
 ghost use Rattle.marks.specs.Marks.{marked-chips, LawfulMarks};
 ghost use Rattle.marks.specs.declared.CardMark.the-variants.{None, Card};
-ghost use Rattle.sums.specs.Words.{spread, Small, gathered};
+ghost use Rattle.sums.specs.Words.{spread, gathered};
 ghost use Rattle.sums.specs.Sums.{rows-of};
 ghost use Rattle.sums.specs.declared.Sums.{Sums};
-ghost use Rattle.sums.proofs.Syndrome.{card-part};
 ghost use Rattle.change.specs.Change.{nonzero-at, no-change, places};
 ghost use Rattle.decode.specs.Search.{SumsAt, Alone, chips-kind, card-kind};
 ghost use Rattle.decode.specs.Decode.{Answers, Decodes};
@@ -48,22 +46,20 @@ fn chips_kind(n: u8) -> reading::Kind
 }
 
 // The word that gathers the rows by card j's words.
-fn card_word(words: &[u64], rows: [u8; 9], j: u8) -> u64
-    requires { ⌜ (length (now words) ≡ 45) × Small (now words) × (j < 5) ⌝ }
-    ensures { λ u. ⌜ u ≡ gathered rows (card-part (now (words .entry)) j) ⌝ }
+fn card_word(rows: [u8; 9], j: u8) -> u64
+    requires { ⌜ j < 5 ⌝ }
+    ensures { λ u. ⌜ u ≡ gathered rows 0 (spread built-in) j ⌝ }
 {
-    let at = 9 * (j as usize);
-    let end = at + 9;
-    sums::gather(&rows, &words[at..end])
+    sums::gather_card(&rows, 0, j)
 }
 
 // ---- no card marked
 // Whether card j alone reaches a lawful block. The second sum is worked out only where the first fits.
-fn fits_alone(words: &[u64], s: sums::Sums, rows: [u8; 9], j: u8) -> bool
-    requires { ⌜ (length (now words) ≡ 45) × Small (now words) × (j < 5) × (rows ≡ rows-of s) ⌝ }
-    ensures { λ r. ⌜ ((labels : List ℕ) → LabelSet labels → now (words .entry) ≡ spread labels → Alone labels s j r) ⌝ }
+fn fits_alone(s: sums::Sums, rows: [u8; 9], j: u8) -> bool
+    requires { ⌜ (j < 5) × (rows ≡ rows-of s) ⌝ }
+    ensures { λ r. ⌜ Alone built-in s j r ⌝ }
 {
-    let u = card_word(words, rows, j);
+    let u = card_word(rows, j);
     if sums::at_x(u) != s.once {
         return false;
     }
@@ -71,34 +67,33 @@ fn fits_alone(words: &[u64], s: sums::Sums, rows: [u8; 9], j: u8) -> bool
 }
 
 // No chip marked either: what a card takes are the rows themselves, so that all cards change as many bytes.
-fn no_marks(words: &[u64], s: sums::Sums) -> Decoded
-    requires { ⌜ (length (now words) ≡ 45) × Small (now words) ⌝ }
-    ensures { λ r. ⌜ ((labels : List ℕ) → LabelSet labels → now (words .entry) ≡ spread labels → Answers labels None [] s r) ⌝ }
+fn no_marks(s: sums::Sums) -> Decoded
+    ensures { λ r. ⌜ Answers built-in None [] s r ⌝ }
 {
     let rows = sums::rows(s);
     let n = change::count(equations::alone(rows, 0));
-    let mut found: u8 = 0;
+    let mut fitting: u8 = 0;
     let mut card: u8 = 0;
-    'cards: for j in 0u8..5 {
-        if fits_alone(words, s, rows, j) {
+    'five: for j in 0u8..5 {
+        if fits_alone(s, rows, j) {
             if n <= 1 {
                 return Decoded {
                     reading: reading::Reading::Corrected(chips_kind(n)),
                     change: equations::alone(rows, j),
                 };
             }
-            if found == 1 {
-                found = 2;
-                break 'cards;
+            if fitting == 1 {
+                fitting = 2;
+                break 'five;
             }
-            found = 1;
+            fitting = 1;
             card = j;
         }
     }
-    if found == 0 {
+    if fitting == 0 {
         return refused(reading::Reading::Refused(10));
     }
-    if found == 2 {
+    if fitting == 2 {
         return refused(reading::Reading::Several(card));
     }
     Decoded {
@@ -108,8 +103,8 @@ fn no_marks(words: &[u64], s: sums::Sums) -> Decoded
 }
 
 // The cards are looked at in turn, each with the marked chips, until two different lawful blocks are found or one by chips.
-fn over_cards(labels: &[u8], words: &[u64], s: sums::Sums, m: marks::Marks) -> Decoded
-    requires { ⌜ LabelSet (now labels) × (now words ≡ spread (now labels)) × LawfulMarks m ⌝ }
+fn over_cards(labels: &[u8], s: sums::Sums, m: marks::Marks) -> Decoded
+    requires { ⌜ LabelSet (now labels) × (now labels ≡ built-in) × LawfulMarks m ⌝ }
     ensures { λ r. ⌜ Answers (now (labels .entry)) None (marked-chips m) s r ⌝ }
 {
     let rows = sums::rows(s);
@@ -118,7 +113,7 @@ fn over_cards(labels: &[u8], words: &[u64], s: sums::Sums, m: marks::Marks) -> D
     let mut held_once: u8 = 0;
     let mut held_squared: u8 = 0;
     'cards: for j in 0u8..5 {
-        let u = card_word(words, rows, j);
+        let u = card_word(rows, j);
         let once = field::add(s.once, sums::at_x(u));
         let squared = field::add(s.squared, sums::at_x_squared(u));
         let w = chips::off_card(m, j);
@@ -196,12 +191,12 @@ fn beside_card(labels: &[u8], rows: [u8; 9], once: u8, squared: u8, j: u8) -> De
 }
 
 // At most one lawful block is allowed.
-fn under_card(labels: &[u8], words: &[u64], s: sums::Sums, m: marks::Marks, j: u8) -> Decoded
-    requires { ⌜ LabelSet (now labels) × (now words ≡ spread (now labels)) × LawfulMarks m × (j < 5) ⌝ }
+fn under_card(labels: &[u8], s: sums::Sums, m: marks::Marks, j: u8) -> Decoded
+    requires { ⌜ LabelSet (now labels) × (now labels ≡ built-in) × LawfulMarks m × (j < 5) ⌝ }
     ensures { λ r. ⌜ Answers (now (labels .entry)) (Card j) (marked-chips m) s r ⌝ }
 {
     let rows = sums::rows(s);
-    let u = card_word(words, rows, j);
+    let u = card_word(rows, j);
     let once = field::add(s.once, sums::at_x(u));
     let squared = field::add(s.squared, sums::at_x_squared(u));
     if m.count == 0 {
@@ -227,19 +222,19 @@ pub fn decode(s: sums::Sums, m: marks::Marks) -> Decoded
     if cause != 0 {
         return refused(reading::Reading::Refused(cause));
     }
-    let words = sums::built_in();
     let card = m.card;
+    let chips = m.count;
     match card {
         marks::CardMark::None => {
-            if m.count == 0 {
-                return no_marks(&words, s);
+            if chips == 0 {
+                return no_marks(s);
             }
             let labels = code::labels();
-            over_cards(&labels, &words, s, m)
+            over_cards(&labels, s, m)
         }
         marks::CardMark::Card(j) => {
             let labels = code::labels();
-            under_card(&labels, &words, s, m, j)
+            under_card(&labels, s, m, j)
         }
     }
 }

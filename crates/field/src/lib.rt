@@ -46,6 +46,6 @@ pub fn mul(a: u8, b: u8) -> u8
 pub fn invert(a: u8) -> u8
     ensures { λ r. ⌜ ((a ≡ 0 → r ≡ 0) × ((a ≡ 0 → ⊥) → a · r ≡ 1)) ⌝ }
 {
-    let inverses = table::INVERSES;
-    inverses[a as usize]
+    let k = 8 * (a % 8);
+    ((table::inverses_from(a / 8) >> k) % 256) as u8
 }

@@ -179,7 +179,8 @@ module _ (ls : List ℕ) (ok : LabelSet ls) (ps : List ℕ) (few : Few rules ps)
   unfolding Some
   search-of j hj qs fq = go (reached-or-not j hj qs fq)
     where
-      go : ((x : List ℕ) × Reached ls j qs b x) ⊎ ((x : List ℕ) → Reached ls j qs b x → ⊥) → ((x : List ℕ) × Reached ls j qs b x) ⊎ ((x : List ℕ) × Reached ls j qs b x → ⊥)
+      go : ((x : List ℕ) × Reached ls j qs b x) ⊎ ((x : List ℕ) → Reached ls j qs b x → ⊥)
+          → ((x : List ℕ) × Reached ls j qs b x) ⊎ ((x : List ℕ) × Reached ls j qs b x → ⊥)
       go (inl w) = inl w
       go (inr h) = inr (λ w. h (w .0) (w .1))
 
@@ -207,7 +208,8 @@ module _ (ls : List ℕ) (ok : LabelSet ls) (ps : List ℕ) (few : Few rules ps)
   unfolding Read Some Other
   reads-exist (Card m) hm out = go (find (λ f. Some m (beside-chips ps f)) 45 (λ f l. search-of m hm (beside-chips ps f) (beside-few ps few f l)))
     where
-      go : ((f : ℕ) × (f < 45) × ((x : List ℕ) × Reached ls m (beside-chips ps f) b x)) ⊎ ((f : ℕ) → f < 45 → (x : List ℕ) × Reached ls m (beside-chips ps f) b x → ⊥)
+      go : ((f : ℕ) × (f < 45) × ((x : List ℕ) × Reached ls m (beside-chips ps f) b x))
+          ⊎ ((f : ℕ) → f < 45 → (x : List ℕ) × Reached ls m (beside-chips ps f) b x → ⊥)
           → (a : Answer) × (x : List ℕ) × Reads ls (Card m) ps b out a x
       go (inl w) =
           let s = covers-beside m b (w .2 .0) ls ps (w .0) (w .2 .1) in
@@ -231,4 +233,8 @@ module _ (ls : List ℕ) (ok : LabelSet ls) (ps : List ℕ) (few : Few rules ps)
               → (a : Answer) × (x : List ℕ) × Reads ls None ps b out a x
           at (inl (i, hi, (y, g, n))) =
               (refused-card 11 j, out, (refl, (y, x, covers ls ps b y i hi g, mine, n), (hj, (x, h .block, h .lawful, h .only)), refl))
-          at (inr none) = told None out x (mine, λ y t. let w = covered ls ps b y t in same-as y (w .0) (w .2) (none (w .0) (w .1)) (alike-or-not y x (t .block .long) (h .block .long)))
+          at (inr none) = told None out x (
+            mine,
+            λ y t. let w = covered ls ps b y t in
+                same-as y (w .0) (w .2) (none (w .0) (w .1)) (alike-or-not y x (t .block .long) (h .block .long)),
+          )

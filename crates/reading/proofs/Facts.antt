@@ -4,6 +4,7 @@
 --   card-one     under a card mark S has at most one member
 --   apart        what two cards reach alike lies in marked chips
 --   never-none   with two chip marks and no card mark S is never empty
+--   reaches      any card may be given with 11 that reaches a lawful block; reached-by: and only such a card
 --   unchanged    a change of no byte is of the chip kind
 --   clean-only   a lawful block is the one member of its S; clean-reads: it reads as clean; clean-lawful: only such a block does
 use mathlib.Core.Logic.{_≢_, _⊎_, inl, inr}
@@ -19,7 +20,7 @@ use Rattle.base.proofs.Tests.{same}
 use Rattle.answer.specs.Answer.{clean}
 use Rattle.code.specs.Block.{byte, Block, Lawful, DifferOnly, OneMember}
 use Rattle.code.specs.Labels.{LabelSet}
-use Rattle.code.specs.Reach.{rules, Few, keep}
+use Rattle.code.specs.Reach.{rules, Few, keep, Reached}
 use Rattle.code.proofs.Few.{few-length, few-more, few-of, widen, between}
 use Rattle.code.proofs.Reach.{fits, closed, reached-few}
 use Rattle.code.proofs.Closed.{fits-two}
@@ -28,7 +29,7 @@ use Rattle.marks.specs.Marks.{CardInRange}
 use Rattle.marks.specs.declared.CardMark.{CardMark}
 use Rattle.marks.specs.declared.CardMark.the-variants.{None, Card}
 use Rattle.reading.specs.Allowed.{further, further-beside, ChipKind, CardKind, BesideKind, Allowed, OfChipKind}
-use Rattle.reading.specs.Reading.{S, Reads}
+use Rattle.reading.specs.Reading.{S, Reaches, Reads}
 use Rattle.reading.proofs.Marked.{append-in}
 use Rattle.reading.proofs.Searches.{covered, covers}
 
@@ -53,6 +54,13 @@ apart ps b x i j ne g h = ([], omega arith, λ p l. go p (g p l) (h p l))
     go p (inr (inl e)) (inl d) = inl d
     go p (inr (inl e)) (inr (inr m)) = inr (inl m)
     go p (inr (inl e)) (inr (inl d)) = absurd (ne (sym e ∙ d))
+
+-- ---- any card may be given with 11 that reaches a lawful block
+pub reaches : (ls ps b : List ℕ) (j : ℕ) → j < 5 → (y : List ℕ) → Reached ls j ps b y → Reaches ls ps b j
+reaches ls ps b j hj y h = (hj, (y, h .block, h .lawful, h .only))
+
+pub reached-by : (ls ps b : List ℕ) (j : ℕ) → Reaches ls ps b j → (j < 5) × ((y : List ℕ) × Reached ls j ps b y)
+reached-by ls ps b j (hj, (y, block, lawful, only)) = (hj, (y, record { block = block; lawful = lawful; only = only }))
 
 -- ---- no byte changed
 pub unchanged : (c : CardMark) (ps b : List ℕ) → OfChipKind c ps b b

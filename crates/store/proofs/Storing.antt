@@ -132,7 +132,8 @@ module _ (labels : List ℕ) (set : LabelSet labels) (f g h k : ℕ) (F : Factor
       -- bytes 34, 35 and card 4 are "one card and two chips"
       only : (z : List ℕ) → Stored labels rec z → z ≡ b₂
       only z st =
-          alike labels set 4 (omega arith) (34 ∷ 35 ∷ []) (few-two 34 35 (omega arith) (omega arith) (λ e. omega arith)) z b₂ (st .block) (st .lawful) block lawful
+          alike labels set 4 (omega arith) (34 ∷ 35 ∷ []) (few-two 34 35 (omega arith) (omega arith) (λ e. omega arith)) z b₂ (st .block)
+          (st .lawful) block lawful
           (λ p l. differ z st p l (decLt p 34))
 
 -- ---- the contract, by its cause

@@ -82,8 +82,7 @@ fn write(rec: &[u8], out: &mut [u8])
     ensures { λ _. ⌜ OneMember (Stored built-in (now (rec .entry))) (now (out .exit)) ⌝ }
 {
     begin(rec, out);
-    let words = sums::built_in();
-    let u = sums::gather(out, &words);
+    let u = sums::gather(out);
     let once = sums::at_x(u);
     let squared = sums::at_x_squared(u);
     // The four factors are those of the built-in labels.

@@ -3,14 +3,16 @@
 --   word-is        the word that the code puts together holds the eight bytes from a place on
 --   five-words     the sum of the five cards' words holds the rows of chips 0 to 7
 --   five-bytes     the row of chip 8
---   nine-rows      what both hold are the nine rows
-use mathlib.Core.Path.{_≡_}
+--   five-cards     the sum over a block, from the five cards'
+--   nine-at        entry i of nine numbers of which the first eight are f's
+use mathlib.Core.Path.{_≡_, sym, _∙_}
 use mathlib.Core.List.{List, [], _∷_}
 use Prim.Native.Nat.{ℕ, _+_, _*_, _%_, _^_, _<_}
 use native.Mathlib.Nat.{not-suc-le-zero}
 use native.Mathlib.Omega.{arith}
 use Rattle.field.specs.Field.{_⊕_, sum}
 use Rattle.field.proofs.Xor.{sums}
+use Rattle.field.proofs.Sum.{sum-nest}
 use Rattle.base.proofs.Tests.{below-suc}
 use Rattle.code.specs.Block.{byte, position, listed}
 use Rattle.sums.specs.Words.{byte-of}
@@ -37,7 +39,15 @@ pub five-bytes : (b : List ℕ) → byte b 8 ⊕ byte b 17 ⊕ byte b 26 ⊕ byt
 unfolding sum
 five-bytes b = simp sums
 
--- entry i of nine numbers of which the first eight are f's
+five : (g : ℕ → ℕ) → g 0 ⊕ g 1 ⊕ g 2 ⊕ g 3 ⊕ g 4 ≡ sum 5 g
+unfolding sum
+five g = simp sums
+
+pub five-cards : (f : ℕ → ℕ) (u₀ u₁ u₂ u₃ u₄ : ℕ)
+    → u₀ ≡ sum 9 (λ i. f (position 0 i)) → u₁ ≡ sum 9 (λ i. f (position 1 i)) → u₂ ≡ sum 9 (λ i. f (position 2 i))
+    → u₃ ≡ sum 9 (λ i. f (position 3 i)) → u₄ ≡ sum 9 (λ i. f (position 4 i)) → u₀ ⊕ u₁ ⊕ u₂ ⊕ u₃ ⊕ u₄ ≡ sum 45 f
+five-cards f u₀ u₁ u₂ u₃ u₄ e₀ e₁ e₂ e₃ e₄ = rw (e₀, e₁, e₂, e₃, e₄) (five (λ j. sum 9 (λ i. f (position j i))) ∙ sym (sum-nest 5 9 f))
+
 pub nine-at : (f : ℕ → ℕ) (x : ℕ) (P : ℕ → ℕ → Type 0) → ((i : ℕ) → i < 8 → P i (f i)) → P 8 x → (i : ℕ) → i < 9 → P i (byte (listed f 8 (x ∷ [])) i)
 nine-at f x P low high =
     below-suc Q 8 high (below-suc Q 7 (low 7 (omega arith)) (below-suc Q 6 (low 6 (omega arith)) (below-suc Q 5 (low 5 (omega arith))

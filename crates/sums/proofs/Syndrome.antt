@@ -1,15 +1,14 @@
 -- The sums of a block, and those reduced to a card, for any labels and the words spread from them.
 --
---   once-of, squared-of   the word that gathers a block gives its label sums (gathers-45: of 45 bytes)
+--   once-of, squared-of   the word that gathers a block gives its label sums
 --   built-in-below        the built-in labels are bytes
 --   sums-are       what the code works out of a block, from that word, is the block's sums
---   card-part      the nine words of card j, as the code lends them; part-length, part-small
+--   in-part, part-at      one card's part of the words, as the code has it in figures, and among all
 --   reduced-sums   what the word that gathers the rows by card j's words adds to the label sums makes them those of card j's reduced matrix
 use mathlib.Core.Path.{_≡_, sym, ap, ap₂, _∙_, subst}
 use mathlib.Core.List.{List}
-use Prim.Native.Nat.{ℕ, _+_, _*_, _-_, _%_, _^_, _<_}
-use native.Mathlib.Omega.{arith}
-use lib.ListN.{length, getD, take, drop, length-take, length-drop}
+use Prim.Native.Nat.{ℕ, _+_, _*_, _^_, _<_}
+use lib.ListN.{getD, drop}
 use lib.Seq.{getD-take, getD-drop}
 use Rattle.field.specs.Field.{sum, _⊕_, _·_}
 use Rattle.field.proofs.Gf256.{field}
@@ -18,9 +17,9 @@ use Rattle.field.proofs.Squares.{squared}
 use Rattle.code.specs.Block.{byte, position, Block}
 use Rattle.code.specs.Labels.{built-in, entry, LabelSet}
 use Rattle.code.proofs.Card.{row, red-sum}
-use Rattle.code.proofs.BuiltIn.{built-in-set}
+use Rattle.code.proofs.BuiltIn.{figures, in-figures, built-in-set}
 use Rattle.code.proofs.Blocks.{all-below, label-below}
-use Rattle.sums.specs.Words.{byte-of, spread-of, spread, Small, gathered, at-point}
+use Rattle.sums.specs.Words.{byte-of, spread-of, spread, card-part, gathered, at-point}
 use Rattle.sums.specs.Sums.{rows-of, IsSums, ReducedSums}
 use Rattle.sums.specs.declared.Sums.{Sums}
 use Rattle.sums.proofs.Points.{once-at, squared-at, spread-at}
@@ -28,11 +27,6 @@ use Rattle.sums.proofs.Cards.{nine-at}
 
 pub built-in-below : (p : ℕ) → byte built-in p < 2 ^ 8
 built-in-below = label-below built-in built-in-set
-
--- the word that gathers 45 bytes
-pub gathers-45 : (b words : List ℕ) (u : ℕ) → length b ≡ 45 → u ≡ gathered b words → u ≡ sum 45 (λ p. byte b p * getD words p 0)
-unfolding gathered
-gathers-45 b words u n e = e ∙ ap (λ (m : ℕ). sum m (λ p. byte b p * getD words p 0)) n
 
 module _ (labels b words : List ℕ) (hl : (p : ℕ) → byte labels p < 2 ^ 8) (hb : (p : ℕ) → byte b p < 2 ^ 8) (w : words ≡ spread labels)
     (u : ℕ) (e : u ≡ sum 45 (λ p. byte b p * getD words p 0)) where
@@ -55,19 +49,11 @@ module _ (labels b words : List ℕ) (hl : (p : ℕ) → byte labels p < 2 ^ 8) 
   }
 
 -- ---- one card's part of the words
-abbrev pub card-part : List ℕ → ℕ → List ℕ
-card-part words j = take (9 * j + 9 - 9 * j) (drop (9 * j) words)
+pub in-part : (r : List ℕ) (k j : ℕ) → j ≡ k → r ≡ card-part (spread figures) k → r ≡ card-part (spread built-in) j
+in-part r k j e h = h ∙ ap₂ (λ (l : List ℕ) (i : ℕ). card-part (spread l) i) (sym in-figures) (sym e)
 
-pub part-length : (words : List ℕ) (j : ℕ) → length words ≡ 45 → j < 5 → length (card-part words j) ≡ 9
-part-length words j l h = rw (length-take, length-drop) (omega arith)
-
-part-at : (words : List ℕ) (j p : ℕ) → p < 9 → getD (card-part words j) p 0 ≡ getD words (9 * j + p) 0
-part-at words j p h = getD-take (9 * j + 9 - 9 * j) (drop (9 * j) words) p 0 (omega arith) ∙ getD-drop (9 * j) words p 0
-
-pub part-small : (words : List ℕ) (j : ℕ) → length words ≡ 45 → j < 5 → Small words → Small (card-part words j)
-part-small words j l h s p hp =
-    let q : p < 9 = omega (arith, part-length words j l h) in
-    subst (λ (x : ℕ). x < 0x0101010101010102) (sym (part-at words j p q)) (s (9 * j + p) (omega arith))
+pub part-at : (words : List ℕ) (j p : ℕ) → p < 9 → getD (card-part words j) p 0 ≡ getD words (9 * j + p) 0
+part-at words j p h = getD-take 9 (drop (9 * j) words) p 0 h ∙ getD-drop (9 * j) words p 0
 
 -- ---- the reduced sums
 module _ (labels b : List ℕ) (set : LabelSet labels) (block : Block b) (s : Sums) (known : IsSums labels b s) (j : ℕ) where
@@ -90,17 +76,17 @@ module _ (labels b : List ℕ) (set : LabelSet labels) (block : Block b) (s : Su
   rows-below i l = subst (λ (x : ℕ). x < 2 ^ 8) (sym (known .rows i l)) (sum-below 8 5 (λ k. byte b (position k i)) (λ k. all-below b block (position k i)))
 
   module _ (h : j < 5) (words : List ℕ) (w : words ≡ spread labels) where
-    is : (i : ℕ) → i < 9 → getD (card-part words j) i 0 ≡ spread-of 8 (byte labels (9 * j + i))
-    is i l = part-at words j i l ∙ ap (λ (v : List ℕ). getD v (9 * j + i) 0) w ∙ spread-at labels (9 * j + i)
+    is : (i : ℕ) → i < 9 → getD words (9 * j + i) 0 ≡ spread-of 8 (byte labels (9 * j + i))
+    is i l = ap (λ (v : List ℕ). getD v (9 * j + i) 0) w ∙ spread-at labels (9 * j + i)
 
     own-below : (i : ℕ) → i < 9 → byte labels (9 * j + i) < 2 ^ 8
     own-below i l = label-below labels set (9 * j + i)
 
-    pub reduced-sums : (u : ℕ) → u ≡ gathered (rows-of s) (card-part words j) → ReducedSums labels b j (s .once ⊕ at-point 2 8 u) (s .squared ⊕ at-point 4 8 u)
-    unfolding gathered
+    pub reduced-sums : (u : ℕ) → u ≡ gathered (rows-of s) 0 words j → ReducedSums labels b j (s .once ⊕ at-point 2 8 u) (s .squared ⊕ at-point 4 8 u)
+    unfolding gathered sum
     reduced-sums u e =
         let ls : ℕ → ℕ = λ i. byte labels (9 * j + i) in
-        let ws : ℕ → ℕ = λ i. getD (card-part words j) i 0 in
+        let ws : ℕ → ℕ = λ i. getD words (9 * j + i) 0 in
         record {
           once = ap (λ (x : ℕ). s .once ⊕ x) (ap (at-point 2 8) e ∙ once-at 9 ls (byte (rows-of s)) ws is own-below rows-below) ∙ once-is;
           squared = ap (λ (x : ℕ). s .squared ⊕ x) (ap (at-point 4 8) e ∙ squared-at 9 ls (byte (rows-of s)) ws is own-below rows-below) ∙ squared-is;

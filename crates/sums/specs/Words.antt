@@ -4,14 +4,14 @@
 --   spread-of n x     the n lowest binary digits of x, one to a byte of a word
 --   spread labels     the labels so
 --   Small words       each fits into 64 bits when it is multiplied by a byte
---   gathered          the sum of byte times word; of spread labels, byte k gathers the bytes whose label has digit k
---   Gathers           u is that, and what was lent is as before
+--   card-part         the nine words of card j
+--   gathered          the sum of byte times word, over the nine bytes from a place on and card j's words; of spread labels, byte k gathers the
+--                     bytes whose label has digit k
 --   at-point c n u    the n bytes of u as a polynomial's coefficients, the lowest first, at the point c of the field
 --   reduced v         the remainder of a polynomial of degree 21 at most by the field's modulus
-use mathlib.Core.Path.{_≡_}
 use mathlib.Core.List.{List, [], _∷_}
 use Prim.Native.Nat.{ℕ, zero, suc, _+_, _*_, _/_, _%_, _^_, _<_}
-use lib.ListN.{getD, length}
+use lib.ListN.{getD, length, take, drop}
 use Rattle.field.specs.Field.{_⊕_, _·_, sum, remainder}
 use Rattle.code.specs.Block.{byte}
 
@@ -30,14 +30,11 @@ spread (x ∷ labels) = spread-of 8 x ∷ spread labels
 abbrev pub Small : List ℕ → Type 0
 Small words = (p : ℕ) → p < length words → getD words p 0 < 0x0101010101010102
 
-unfoldable pub gathered : List ℕ → List ℕ → ℕ
-gathered bytes words = sum (length bytes) (λ p. byte bytes p * getD words p 0)
+abbrev pub card-part : List ℕ → ℕ → List ℕ
+card-part words j = take 9 (drop (9 * j) words)
 
--- (bytes′ and words′ are what was lent, after the call)
-pub record Gathers (bytes words : List ℕ) (u : ℕ) (bytes′ words′ : List ℕ) : Type 0 where
-  pub word : u ≡ gathered bytes words
-  pub bytes-kept : bytes′ ≡ bytes
-  pub words-kept : words′ ≡ words
+unfoldable pub gathered : List ℕ → ℕ → List ℕ → ℕ → ℕ
+gathered bytes at words j = sum 9 (λ i. byte bytes (at + i) * getD words (9 * j + i) 0)
 
 unfoldable pub at-point : ℕ → ℕ → ℕ → ℕ
 at-point c zero u = 0

@@ -11,8 +11,10 @@ ghost use lib.ListN.{length, getD};
 ghost use Rattle.field.specs.Field.{sum};
 ghost use Rattle.code.specs.Block.{byte, position};
 ghost use Rattle.code.specs.Labels.{built-in};
-ghost use Rattle.sums.specs.Words.{byte-of, spread, Small, Gathers, at-point, reduced};
+ghost use Rattle.sums.specs.Words.{byte-of, spread, gathered, at-point, reduced};
 ghost use Rattle.sums.specs.Sums.{rows-of, all-zero, BlockSums};
+
+mod words;
 
 // The row of chip i in byte i of `low`, of chip 8 in `high`; the sum of label times byte, and of label squared times byte.
 pub struct Sums {
@@ -20,62 +22,6 @@ pub struct Sums {
     pub high: u8,
     pub once: u8,
     pub squared: u8,
-}
-
-// The 45 built-in labels, spread.
-const WORDS: [u64; 45] = [
-    0x0000000000000001,
-    0x0000000000000100,
-    0x0000000000010000,
-    0x0000000001000000,
-    0x0000000100000000,
-    0x0000010000000000,
-    0x0001000000000000,
-    0x0100000000000000,
-    0x0000000101010001,
-    0x0100000101000000,
-    0x0000010001010001,
-    0x0001000101000100,
-    0x0100010100010000,
-    0x0001010100010001,
-    0x0101010001000100,
-    0x0101000001000001,
-    0x0100000001010101,
-    0x0000000000000101,
-    0x0001000001010100,
-    0x0100000101010000,
-    0x0000010000010001,
-    0x0001000001000100,
-    0x0100000100010000,
-    0x0000010100010001,
-    0x0001010001000100,
-    0x0101000100010000,
-    0x0100010100010001,
-    0x0000000001000100,
-    0x0000000100010000,
-    0x0000010001000000,
-    0x0001000100000000,
-    0x0100010000000000,
-    0x0001000101010001,
-    0x0100010101000100,
-    0x0001010001000001,
-    0x0101000100000100,
-    0x0100000101000001,
-    0x0000010001010101,
-    0x0001000101010100,
-    0x0100010101010000,
-    0x0001010000010001,
-    0x0101000001000100,
-    0x0100000001000001,
-    0x0000000001010101,
-    0x0000000101010100,
-];
-
-// The built-in labels' words.
-pub fn built_in() -> [u64; 45]
-    ensures { λ r. ⌜ r ≡ spread built-in ⌝ }
-{
-    WORDS
 }
 
 fn wide(x: u8) -> u64
@@ -86,27 +32,31 @@ fn wide(x: u8) -> u64
 
 // ---- the gathered word
 
-// The first n bytes times their words. The bound is a parameter, so that it is a constant for a block.
-fn gather_first(bytes: &[u8], words: &[u64], n: usize) -> u64
-    requires { ⌜ (n ≤ length (now bytes)) × (n ≤ length (now words)) × Small (now words) ⌝ }
-    ensures { λ u. ⌜ u ≡ sum n (λ p. byte (now (bytes .entry)) p * getD (now (words .entry)) p 0) ⌝ }
+// Nine bytes from a place on, each times its word of card j, summed: byte k is the sum of the bytes whose label has digit k.
+pub fn gather_card(bytes: &[u8], at: usize, j: u8) -> u64
+    requires { ⌜ (at + 9 ≤ length (now bytes)) × (j < 5) ⌝ }
+    ensures { λ u. ⌜ u ≡ gathered (now (bytes .entry)) at (spread built-in) j ⌝ }
 {
+    let own = words::card_words(j);
     let mut u: u64 = 0;
-    let mut p: usize = 0;
-    while p < n {
-        u = (wide(bytes[p]) * words[p]) ^ u;
-        p = p + 1;
+    let mut i: usize = 0;
+    while i < 9 {
+        u = (wide(bytes[at + i]) * own[i]) ^ u;
+        i = i + 1;
     }
     u
 }
 
-// Each byte times its word, summed: of spread labels, byte k is the sum of the bytes whose label has digit k. Asked for is a word for each byte,
-// small enough that the product fits.
-pub fn gather(bytes: &[u8], words: &[u64]) -> u64
-    requires { ⌜ (length (now bytes) ≡ length (now words)) × Small (now words) ⌝ }
-    ensures { λ u. ⌜ Gathers (now (bytes .entry)) (now (words .entry)) u (now (bytes .exit)) (now (words .exit)) ⌝ }
+// The five cards' together. Each card is a call of its own, so that its words are constants there.
+pub fn gather(b: &[u8]) -> u64
+    requires { ⌜ length (now b) ≡ 45 ⌝ }
+    ensures { λ u. ⌜ u ≡ sum 45 (λ p. byte (now (b .entry)) p * getD (spread built-in) p 0) ⌝ }
 {
-    gather_first(bytes, words, bytes.len())
+    gather_card(b, 0, 0)
+        ^ gather_card(b, 9, 1)
+        ^ gather_card(b, 18, 2)
+        ^ gather_card(b, 27, 3)
+        ^ gather_card(b, 36, 4)
 }
 
 // The remainder of a polynomial of degree 21 at most: q times the modulus x ^ 8 + x ^ 4 + x ^ 3 + x ^ 2 + 1 is taken off. The modulus goes into
@@ -195,9 +145,7 @@ pub fn of_block(block: &[u8]) -> Sums
             squared: 0,
         };
     }
-    // The words are made here, where the bound is known: each is then a constant of its own step.
-    let words = built_in();
-    let u = gather_first(block, &words, 45);
+    let u = gather(block);
     let low = low_rows(block);
     let high = last_row(block);
     let once = at_x(u);

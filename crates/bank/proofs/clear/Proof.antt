@@ -19,7 +19,8 @@ same-length : tie.Need-same-length
 same-length c = search needs
 
 returns-2 : tie.Need-returns-2
-returns-2 c = clear-done _ _ (clear-is _ _ (c .before .before .before .before .before .size-cause .ensures) ∙ c .before .before .before .before .if1 .left) (c .before .before .zero .ensures)
+returns-2 c = clear-done _ _ (clear-is _ _ (c .before .before .before .before .before .size-cause .ensures)
+    ∙ c .before .before .before .before .if1 .left) (c .before .before .zero .ensures)
 
 pub clear-spec : {M : Type 1} → statement M
 clear-spec = tie.close (tie.spec size-cause-requires returns zero-requires same-length returns-2)

@@ -1,6 +1,7 @@
 -- What a reading of block k says is what get says of the bank, which is not touched.
 use mathlib.Core.Path.{_≡_, refl, sym, ap, _∙_}
 use native.Mathlib.Omega.{arith}
+use Prim.Native.Nat.{_+_, _*_, _≤_}
 use lib.ListN.{length}
 use Rattle.marks.specs.Marks.{marks-cause}
 use Rattle.block.proofs.Causes.{read-marks}
@@ -13,41 +14,24 @@ use Rattle.bank.proofs.get.Tie as tie
 returns : tie.Need-returns
 returns c = get-refused _ _ _ _ 2 (get-2 _ _ _ _ (c .if1 .taken)) (λ z. omega arith)
 
-place-cause-requires : tie.Need-place-cause-requires
-place-cause-requires c κs = search needs
-
 returns-2 : tie.Need-returns-2
-returns-2 c = get-refused _ _ _ _ _ (get-is _ _ _ _ (c .before .before .if1 .left) ∙ patrol-is _ _ _ ∙ by-first _ _ _ (c .before .place-cause .ensures) (c .if2 .taken)) (c .if2 .taken)
+returns-2 c = get-refused _ _ _ _ _ (get-is _ _ _ _ (c .before .before .if1 .left) ∙ patrol-is _ _ _
+    ∙ by-first _ _ _ (c .before .place-cause .ensures) (c .if2 .taken)) (c .if2 .taken)
+
+-- block k lies in the bank
+room : (c : tie.Else2) → let s = c .before .before .before .before .before in
+    (45 * s .args .k + 45 ≤ length (s .args .bank .now)) × (length (s .args .bank .now) ≤ 46080)
+room c = let s = c .before .before .before .before .before in
+    within (length (s .args .bank .now)) (s .args .k) (sym (c .before .place-cause .ensures) ∙ c .if2 .left)
 
 mul-from : tie.Need-mul-from
-mul-from c =
-    let at = c .before in
-    let s = at .before .before .before .before in
-    omega (arith, within (length (s .args .bank .now)) (s .args .k) (sym (at .place-cause .ensures) ∙ c .if2 .left))
+mul-from c = omega (arith, room c)
 
 add-end : tie.Need-add-end
-add-end c =
-    let at = c .before in
-    let s = at .before .before .before .before in
-    omega (arith, within (length (s .args .bank .now)) (s .args .k) (sym (at .place-cause .ensures) ∙ c .if2 .left))
-
-sub-read : tie.Need-sub-read
-sub-read c = search needs
-
-part-read-start : tie.Need-part-read-start
-part-read-start c = search needs
+add-end c = omega (arith, room c)
 
 part-read-end : tie.Need-part-read-end
-part-read-end c =
-    let at = c .before in
-    let s = at .before .before .before .before in
-    omega (arith, within (length (s .args .bank .now)) (s .args .k) (sym (at .place-cause .ensures) ∙ c .if2 .left))
-
-read-requires : tie.Need-read-requires
-read-requires c κs = search needs
-
-same-length : tie.Need-same-length
-same-length c = search needs
+part-read-end c = omega (arith, room c)
 
 returns-3 : tie.Need-returns-3
 returns-3 c =
@@ -58,8 +42,7 @@ returns-3 c =
     let k = s .args .k in
     let m = s .args .m in
     let out = at .before .before .if1 .left in
-    let e = sym (at .before .place-cause .ensures) ∙ at .if2 .left in
-    let long = part-length bank k (within (length bank) k e .0) in
+    let long = part-length bank k (room at .0) in
     get-done bank k _ (part-is bank k) m _ _ _ _
     (get-is _ _ m _ out ∙ patrol-is _ _ m ∙ by-second _ _ (marks-cause m) (at .before .place-cause .ensures) (at .if2 .left) ∙ sym (read-marks _ m _ long out))
     (call .read .ensures)
@@ -67,15 +50,5 @@ returns-3 c =
 pub get-spec : {M : Type 1} → statement M
 get-spec =
     tie.close
-    (tie.spec
-    returns
-    place-cause-requires
-    returns-2
-    mul-from
-    add-end
-    sub-read
-    part-read-start
-    part-read-end
-    read-requires
-    same-length
-    returns-3)
+    (tie.spec returns (λ c κs. search needs) returns-2 mul-from add-end (λ c. search needs) (λ c. search needs) part-read-end (λ c κs. search needs)
+    (λ c. search needs) returns-3)

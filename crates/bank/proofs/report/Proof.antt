@@ -7,39 +7,19 @@ use borrow.Author.Needs.{needs}
 use Rattle.bank.proofs.report.Statement.{statement}
 use Rattle.bank.proofs.report.Tie as tie
 
-size-cause-requires : tie.Need-size-cause-requires
-size-cause-requires c κs = search needs
-
 returns : tie.Need-returns
 returns c = report-refused _ _ _ (report-is _ _ ∙ by-first _ _ _ (c .before .size-cause .ensures) (c .if1 .taken)) (c .if1 .taken)
-
-marks-cause-requires : tie.Need-marks-cause-requires
-marks-cause-requires c κs = search needs
 
 returns-2 : tie.Need-returns-2
 returns-2 c =
     let size = c .before .before in
-    report-refused _ _ _ (report-is _ _ ∙ by-second _ _ _ (size .before .size-cause .ensures) (size .if1 .left) ∙ sym (c .before .marks-cause .ensures)) (c .if2 .taken)
+    report-refused _ _ _ (report-is _ _ ∙ by-second _ _ _ (size .before .size-cause .ensures) (size .if1 .left)
+    ∙ sym (c .before .marks-cause .ensures)) (c .if2 .taken)
 
 count-blocks-requires : tie.Need-count-blocks-requires
 count-blocks-requires c κs =
     let size = c .before .before in
     (sized _ (sym (size .before .size-cause .ensures) ∙ size .if1 .left) .1, sym (c .before .marks-cause .ensures) ∙ c .if2 .left)
-
-array-read-t11 : tie.Need-array-read-t11
-array-read-t11 c = search needs
-
-array-read-t14 : tie.Need-array-read-t14
-array-read-t14 c = search needs
-
-array-read-t17 : tie.Need-array-read-t17
-array-read-t17 c = search needs
-
-array-read-t20 : tie.Need-array-read-t20
-array-read-t20 c = search needs
-
-array-read-t23 : tie.Need-array-read-t23
-array-read-t23 c = search needs
 
 returns-3 : tie.Need-returns-3
 returns-3 c =
@@ -52,15 +32,5 @@ returns-3 c =
 pub report-spec : {M : Type 1} → statement M
 report-spec =
     tie.close
-    (tie.spec
-    size-cause-requires
-    returns
-    marks-cause-requires
-    returns-2
-    count-blocks-requires
-    array-read-t11
-    array-read-t14
-    array-read-t17
-    array-read-t20
-    array-read-t23
-    returns-3)
+    (tie.spec (λ c κs. search needs) returns (λ c κs. search needs) returns-2 count-blocks-requires (λ c. search needs) (λ c. search needs)
+    (λ c. search needs) (λ c. search needs) (λ c. search needs) returns-3)

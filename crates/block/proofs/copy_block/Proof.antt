@@ -36,7 +36,11 @@ copy-requires : tie.Need-copy-requires Inv-loop μ-loop
 copy-requires c κs =
     let l = c .before .before .before in
     let s = l .before .before .before in
-    omega (arith, card-length (l .loop .at) (s .args .from .now) (s .pre .0) (room (l .loop .at) (l .loop .inv .1) (omega (arith, c .before .before .loop-test .taken))))
+    omega (
+      arith,
+      card-length (l .loop .at) (s .args .from .now) (s .pre .0)
+          (room (l .loop .at) (l .loop .inv .1) (omega (arith, c .before .before .loop-test .taken))),
+    )
 
 slice-aggregate-copy-2 : tie.Need-slice-aggregate-copy-2 Inv-loop μ-loop
 slice-aggregate-copy-2 c = search needs
@@ -81,7 +85,8 @@ loop-again c =
     let of-from = card-length (l .loop .at) (s .args .from .now) (s .pre .0) h in
     let nine = copied (card (l .loop .at) (s .args .from .now)) (replicate 9 0) (p .copy .last .1 .0) (sym of-from) (p .copy .ensures .1) in
     let of-to = card-length (l .loop .at) (l .loop .to) (l .loop .inv .2 .long) h in
-    let there = copied (p .copy .last .1 .0) (card (l .loop .at) (l .loop .to)) (q .copy2 .last .1 .0) (of-to ∙ sym (ap length nine ∙ of-from)) (q .copy2 .ensures .1) in
+    let there = copied (p .copy .last .1 .0) (card (l .loop .at) (l .loop .to)) (q .copy2 .last .1 .0) (of-to ∙ sym (ap length nine ∙ of-from))
+    (q .copy2 .ensures .1) in
     (h, omega (arith, l .loop .inv .1), front-more (s .args .from .now) (l .loop .to) (l .loop .at) _ (s .pre .0) h (there ∙ nine) (l .loop .inv .2))
 
 same-length : tie.Need-same-length Inv-loop μ-loop
@@ -95,22 +100,5 @@ returns c =
 pub copy-block-spec : {M : Type 1} → statement M
 copy-block-spec =
     tie.close
-    (tie.spec
-    Inv-loop
-    μ-loop
-    loop-holds
-    add-end
-    sub-copy
-    part-copy-start
-    part-copy-end
-    slice-aggregate-copy
-    copy-requires
-    slice-aggregate-copy-2
-    sub-copy-2
-    part-copy-start-2
-    part-copy-end-2
-    copy-requires-2
-    loop-less
-    loop-again
-    same-length
-    returns)
+    (tie.spec Inv-loop μ-loop loop-holds add-end sub-copy part-copy-start part-copy-end slice-aggregate-copy copy-requires slice-aggregate-copy-2
+    sub-copy-2 part-copy-start-2 part-copy-end-2 copy-requires-2 loop-less loop-again same-length returns)

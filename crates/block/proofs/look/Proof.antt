@@ -10,17 +10,8 @@ use Rattle.block.proofs.Done.{clean-read, decoded-read, look-refused, l
 use Rattle.block.proofs.look.Statement.{statement}
 use Rattle.block.proofs.look.Tie as tie
 
-block-cause-requires : tie.Need-block-cause-requires
-block-cause-requires c κs = search needs
-
 returns : tie.Need-returns
 returns c = look-refused _ _ _ (sym (c .before .block-cause .ensures)) (c .if1 .taken)
-
-of-block-requires : tie.Need-of-block-requires
-of-block-requires c κs = search needs
-
-is-zero-requires : tie.Need-is-zero-requires
-is-zero-requires c κs = search needs
 
 returns-2 : tie.Need-returns-2
 returns-2 c =
@@ -32,10 +23,8 @@ returns-2 c =
     let e = sym (call .block-cause .ensures) ∙ sums .before .if1 .left in
     let h = mend-none (length b) m e in
     let bb : Block b = record { long = h .0; bytes = λ p l. omega (arith, call .before .shared-slice-known .given p) } in
-    look-done b m _ b b e (clean-read m (h .1) b bb (sums .of-block .result) (sums .of-block .ensures .block (h .0)) (passes (z .is-zero .ensures) (c .if2 .taken)) b)
-
-decode-requires : tie.Need-decode-requires
-decode-requires c κs = search needs
+    look-done b m _ b b e (clean-read m (h .1) b bb (sums .of-block .result) (sums .of-block .ensures .block (h .0))
+    (passes (z .is-zero .ensures) (c .if2 .taken)) b)
 
 returns-3 : tie.Need-returns-3
 returns-3 c =
@@ -52,11 +41,4 @@ returns-3 c =
 pub look-spec : {M : Type 1} → statement M
 look-spec =
     tie.close
-    (tie.spec
-    block-cause-requires
-    returns
-    of-block-requires
-    is-zero-requires
-    returns-2
-    decode-requires
-    returns-3)
+    (tie.spec (λ c κs. search needs) returns (λ c κs. search needs) (λ c κs. search needs) returns-2 (λ c κs. search needs) returns-3)

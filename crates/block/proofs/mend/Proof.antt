@@ -10,20 +10,8 @@ use Rattle.block.proofs.Done.{clean-read, decoded-read, mend-refused, m
 use Rattle.block.proofs.mend.Statement.{statement}
 use Rattle.block.proofs.mend.Tie as tie
 
-block-cause-requires : tie.Need-block-cause-requires
-block-cause-requires c κs = search needs
-
 returns : tie.Need-returns
 returns c = mend-refused _ _ _ (sym (c .before .block-cause .ensures)) (c .if1 .taken)
-
-of-block-requires : tie.Need-of-block-requires
-of-block-requires c κs = search needs
-
-is-zero-requires : tie.Need-is-zero-requires
-is-zero-requires c κs = search needs
-
-same-length : tie.Need-same-length
-same-length c = search needs
 
 returns-2 : tie.Need-returns-2
 returns-2 c =
@@ -35,16 +23,8 @@ returns-2 c =
     let e = sym (call .block-cause .ensures) ∙ sums .before .before .if1 .left in
     let h = mend-none (length b) m e in
     let bb : Block b = record { long = h .0; bytes = λ p l. omega (arith, call .before .slice-known .given p) } in
-    mend-done b m _ b e (clean-read m (h .1) b bb (sums .of-block .result) (sums .of-block .ensures .block (h .0)) (passes (z .is-zero .ensures) (c .if2 .taken)) b)
-
-decode-requires : tie.Need-decode-requires
-decode-requires c κs = search needs
-
-apply-requires : tie.Need-apply-requires
-apply-requires c κs = search needs
-
-same-length-2 : tie.Need-same-length-2
-same-length-2 c = search needs
+    mend-done b m _ b e (clean-read m (h .1) b bb (sums .of-block .result) (sums .of-block .ensures .block (h .0))
+    (passes (z .is-zero .ensures) (c .if2 .taken)) b)
 
 returns-3 : tie.Need-returns-3
 returns-3 c =
@@ -58,19 +38,11 @@ returns-3 c =
     let h = mend-none (length b) m e in
     let bb : Block b = record { long = h .0; bytes = λ p l. omega (arith, call .before .slice-known .given p) } in
     mend-done b m _ _ e
-    (rw (apply .apply .ensures) (decoded-read m (h .1) b bb (sums .of-block .result) (sums .of-block .ensures .block (h .0)) (decode .decode .result) (decode .decode .ensures)))
+    (rw (apply .apply .ensures) (decoded-read m (h .1) b bb (sums .of-block .result) (sums .of-block .ensures .block (h .0)) (decode .decode .result)
+    (decode .decode .ensures)))
 
 pub mend-spec : {M : Type 1} → statement M
 mend-spec =
     tie.close
-    (tie.spec
-    block-cause-requires
-    returns
-    of-block-requires
-    is-zero-requires
-    same-length
-    returns-2
-    decode-requires
-    apply-requires
-    same-length-2
-    returns-3)
+    (tie.spec (λ c κs. search needs) returns (λ c κs. search needs) (λ c κs. search needs) (λ c. search needs) returns-2 (λ c κs. search needs)
+    (λ c κs. search needs) (λ c. search needs) returns-3)

@@ -19,25 +19,10 @@ returns c = read-refused _ _ _ 1 (read-1 _ _ _ (c .if1 .taken)) (λ z. omega ari
 returns-2 : tie.Need-returns-2
 returns-2 c = read-refused _ _ _ 2 (read-2 _ _ _ (c .before .if1 .left) (c .if2 .taken)) (λ z. omega arith)
 
-marks-cause-requires : tie.Need-marks-cause-requires
-marks-cause-requires c κs = search needs
-
 returns-3 : tie.Need-returns-3
 returns-3 c =
     let e = c .before .before in
     read-refused _ _ _ _ (read-marks _ _ _ (e .before .if1 .left) (e .if2 .left) ∙ sym (c .before .marks-cause .ensures)) (c .if3 .taken)
-
-of-block-requires : tie.Need-of-block-requires
-of-block-requires c κs = search needs
-
-is-zero-requires : tie.Need-is-zero-requires
-is-zero-requires c κs = search needs
-
-copy-block-requires : tie.Need-copy-block-requires
-copy-block-requires c κs = search needs
-
-same-length : tie.Need-same-length
-same-length c = search needs
 
 returns-4 : tie.Need-returns-4
 returns-4 c =
@@ -54,22 +39,8 @@ returns-4 c =
     let bb : Block b = record { long = long .before .if1 .left; bytes = λ p l. omega (arith, long .before .before .before .shared-slice-known .given p) } in
     let e = read-marks (length b) m _ (long .before .if1 .left) (long .if2 .left) ∙ lawful in
     let s = sums .of-block .ensures .block (long .before .if1 .left) in
-    read-done b m out clean _ e (rw (copy .copy-block .ensures .0) (clean-read m lawful b bb (sums .of-block .result) s (passes (zero .is-zero .ensures) (copy .before .before .if4 .taken)) out))
-
-decode-requires : tie.Need-decode-requires
-decode-requires c κs = search needs
-
-was-corrected-requires : tie.Need-was-corrected-requires
-was-corrected-requires c κs = search needs
-
-copy-block-requires-2 : tie.Need-copy-block-requires-2
-copy-block-requires-2 c κs = search needs
-
-apply-requires : tie.Need-apply-requires
-apply-requires c κs = search needs
-
-same-length-2 : tie.Need-same-length-2
-same-length-2 c = search needs
+    read-done b m out clean _ e (rw (copy .copy-block .ensures .0)
+    (clean-read m lawful b bb (sums .of-block .result) s (passes (zero .is-zero .ensures) (copy .before .before .if4 .taken)) out))
 
 returns-5 : tie.Need-returns-5
 returns-5 c =
@@ -92,7 +63,8 @@ returns-5 c =
     let x = applied b (decode .decode .result .change) in
     let w = decoded-read m lawful b bb (sums .of-block .result) s (decode .decode .result) (decode .decode .ensures) in
     read-done b m out a _ e
-    (rw (apply .apply .ensures, copy .copy-block2 .ensures .0) (written m b a x w _ (corrected .was-corrected .ensures) (copy .before .before .before .if5 .taken) out))
+    (rw (apply .apply .ensures, copy .copy-block2 .ensures .0)
+    (written m b a x w _ (corrected .was-corrected .ensures) (copy .before .before .before .if5 .taken) out))
 
 returns-6 : tie.Need-returns-6
 returns-6 c =
@@ -117,20 +89,6 @@ returns-6 c =
 pub read-spec : {M : Type 1} → statement M
 read-spec =
     tie.close
-    (tie.spec
-    returns
-    returns-2
-    marks-cause-requires
-    returns-3
-    of-block-requires
-    is-zero-requires
-    copy-block-requires
-    same-length
-    returns-4
-    decode-requires
-    was-corrected-requires
-    copy-block-requires-2
-    apply-requires
-    same-length-2
-    returns-5
-    returns-6)
+    (tie.spec returns returns-2 (λ c κs. search needs) returns-3 (λ c κs. search needs) (λ c κs. search needs) (λ c κs. search needs)
+    (λ c. search needs) returns-4 (λ c κs. search needs) (λ c κs. search needs) (λ c κs. search needs) (λ c κs. search needs) (λ c. search needs)
+    returns-5 returns-6)

@@ -32,11 +32,4 @@ returns-3 c = (part-none _ _ _ (c .before .before .before .if1 .left) (c .before
 pub record-part-spec : {M : Type 1} → statement M
 record-part-spec =
     tie.close
-    (tie.spec
-    slice-aggregate-result
-    returns
-    was-corrected-requires
-    slice-aggregate-result-2
-    returns-2
-    slice-aggregate-result-3
-    returns-3)
+    (tie.spec slice-aggregate-result returns was-corrected-requires slice-aggregate-result-2 returns-2 slice-aggregate-result-3 returns-3)

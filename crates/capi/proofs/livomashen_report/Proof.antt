@@ -41,12 +41,5 @@ refused c =
 pub livomashen-report-spec : {M : Type 1} → statement M
 livomashen-report-spec =
     tie.close
-    (tie.spec
-    (λ c κs. search needs)
-    (λ c κs. search needs)
-    (λ c. search needs)
-    of-totals-requires
-    (λ c. search needs)
-    (λ c. search needs)
-    counted
+    (tie.spec (λ c κs. search needs) (λ c κs. search needs) (λ c. search needs) of-totals-requires (λ c. search needs) (λ c. search needs) counted
     refused)

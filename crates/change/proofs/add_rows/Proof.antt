@@ -16,9 +16,6 @@ abbrev μ-loop : tie.MeasureT-loop
 returns : tie.Need-returns Inv-loop μ-loop
 returns c = let s = c .before .before in no-card (s .args .block .now) (s .args .j) (s .args .t3) (s .pre) (c .if1 .taken)
 
-mul-start : tie.Need-mul-start Inv-loop μ-loop
-mul-start c = search needs
-
 loop-holds : tie.Need-loop-holds Inv-loop μ-loop
 loop-holds c = (omega arith, rows-start _ _ _ (c .before .before .pre))
 
@@ -30,9 +27,6 @@ slice-read-add c = omega (arith, c .before .before .loop .inv .1 .long, c .befor
 
 array-read-add : tie.Need-array-read-add Inv-loop μ-loop
 array-read-add c = omega (arith, c .before .loop-test .taken)
-
-add-requires : tie.Need-add-requires Inv-loop μ-loop
-add-requires c κs = search needs
 
 add-block : tie.Need-add-block Inv-loop μ-loop
 add-block c = omega (arith, c .before .before .before .before .if1 .left, c .before .before .loop-test .taken)
@@ -69,20 +63,5 @@ returns-2 c =
 pub add-rows-spec : {M : Type 1} → statement M
 add-rows-spec =
     tie.close
-    (tie.spec
-    Inv-loop
-    μ-loop
-    returns
-    mul-start
-    loop-holds
-    add-add
-    slice-read-add
-    array-read-add
-    add-requires
-    add-block
-    slice-write-block
-    add-row
-    loop-less
-    loop-again
-    same-length
-    returns-2)
+    (tie.spec Inv-loop μ-loop returns (λ c. search needs) loop-holds add-add slice-read-add array-read-add (λ c κs. search needs) add-block
+    slice-write-block add-row loop-less loop-again same-length returns-2)

@@ -4,24 +4,6 @@ use borrow.Author.Needs.{needs}
 use Rattle.change.proofs.apply.Statement.{statement}
 use Rattle.change.proofs.apply.Tie as tie
 
-cast-p : tie.Need-cast-p
-cast-p c = search needs
-
-cast-q : tie.Need-cast-q
-cast-q c = search needs
-
-add-rows-requires : tie.Need-add-rows-requires
-add-rows-requires c κs = search needs
-
-add-at-requires : tie.Need-add-at-requires
-add-at-requires c κs = search needs
-
-add-at-requires-2 : tie.Need-add-at-requires-2
-add-at-requires-2 c κs = search needs
-
-same-length : tie.Need-same-length
-same-length c = search needs
-
 returns : tie.Need-returns
 returns c = not-applied (c .before .before .args .block .now) _ (c .if1 .taken)
 
@@ -38,12 +20,5 @@ returns-2 c =
 pub apply-spec : {M : Type 1} → statement M
 apply-spec =
     tie.close
-    (tie.spec
-    returns
-    cast-p
-    cast-q
-    add-rows-requires
-    add-at-requires
-    add-at-requires-2
-    same-length
+    (tie.spec returns (λ c. search needs) (λ c. search needs) (λ c κs. search needs) (λ c κs. search needs) (λ c κs. search needs) (λ c. search needs)
     returns-2)

@@ -9,15 +9,6 @@ use native.Mathlib.Omega.{arith}
 use Rattle.change.proofs.count.Statement.{statement}
 use Rattle.change.proofs.count.Tie as tie
 
-count-rows-requires : tie.Need-count-rows-requires
-count-rows-requires c κs = search needs
-
-one-if-nonzero-requires : tie.Need-one-if-nonzero-requires
-one-if-nonzero-requires c κs = search needs
-
-one-if-nonzero-requires-2 : tie.Need-one-if-nonzero-requires-2
-one-if-nonzero-requires-2 c κs = search needs
-
 add-result : tie.Need-add-result
 add-result c =
     let d = c .before .before .before .before .args .d in
@@ -41,10 +32,4 @@ returns c =
 pub count-spec : {M : Type 1} → statement M
 count-spec =
     tie.close
-    (tie.spec
-    count-rows-requires
-    one-if-nonzero-requires
-    one-if-nonzero-requires-2
-    add-result
-    add-result-2
-    returns)
+    (tie.spec (λ c κs. search needs) (λ c κs. search needs) (λ c κs. search needs) add-result add-result-2 returns)

@@ -20,20 +20,8 @@ loop-holds : tie.Need-loop-holds Inv-loop μ-loop
 unfolding tally
 loop-holds c = (omega arith, omega arith, refl)
 
-array-read-one-if-nonzero : tie.Need-array-read-one-if-nonzero Inv-loop μ-loop
-array-read-one-if-nonzero c = omega arith
-
-one-if-nonzero-requires : tie.Need-one-if-nonzero-requires Inv-loop μ-loop
-one-if-nonzero-requires c κs = tt
-
 add-n : tie.Need-add-n Inv-loop μ-loop
 add-n c = let l = c .before .before in omega (arith, at-most-one (getD (l .before .args .t1) (l .loop .i) 0) _ (c .one-if-nonzero .ensures))
-
-add-i : tie.Need-add-i Inv-loop μ-loop
-add-i c = omega arith
-
-loop-less : tie.Need-loop-less Inv-loop μ-loop
-loop-less c = omega arith
 
 loop-again : tie.Need-loop-again Inv-loop μ-loop
 loop-again c =
@@ -50,14 +38,4 @@ returns c = let e : c .before .loop .i ≡ 9 = omega arith in rw e at (c .before
 pub count-rows-spec : {M : Type 1} → statement M
 count-rows-spec =
     tie.close
-    (tie.spec
-    Inv-loop
-    μ-loop
-    loop-holds
-    array-read-one-if-nonzero
-    one-if-nonzero-requires
-    add-n
-    add-i
-    loop-less
-    loop-again
-    returns)
+    (tie.spec Inv-loop μ-loop loop-holds (λ c. omega arith) (λ c κs. tt) add-n (λ c. omega arith) (λ c. omega arith) loop-again returns)

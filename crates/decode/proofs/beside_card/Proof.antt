@@ -14,9 +14,6 @@ use borrow.Author.Needs.{needs}
 use Rattle.decode.proofs.beside_card.Statement.{statement}
 use Rattle.decode.proofs.beside_card.Tie as tie
 
-refused-requires : tie.Need-refused-requires
-refused-requires c κs = search needs
-
 returns : tie.Need-returns
 returns c =
     let t = c .before in
@@ -25,12 +22,6 @@ returns c =
     let ls = a .labels .now in
     λ sums e at. none-answers ls (s .pre .0) [] tt sums (a .j) (s .pre .1) (a .once) (a .squared) at
     (λ f hf. first-zero ls (a .j) (a .once) (a .squared) (t .before .if1 .taken) (t .if2 .taken) f) (c .refused .result) (c .refused .ensures)
-
-alone-requires : tie.Need-alone-requires
-alone-requires c κs = search needs
-
-kind-under-requires : tie.Need-kind-under-requires
-kind-under-requires c κs = search needs
 
 returns-2 : tie.Need-returns-2
 returns-2 c =
@@ -43,14 +34,9 @@ returns-2 c =
     λ sums e at. found-answers ls (s .pre .0) [] tt sums (a .j) (s .pre .1) (a .once) (a .squared) at (9 * a .j) (omega (arith, s .pre .1)) (d .alone .result)
     (subst (λ (qs : List ℕ). Solves ls (rows-of sums) (a .j) qs (a .once) (a .squared) (d .alone .result)) (on (9 * a .j) (a .j) card)
     (subst (Solves ls (rows-of sums) (a .j) [] (a .once) (a .squared)) (sym (d .alone .ensures ∙ ap (λ (z : List ℕ). rows-only z (a .j)) e))
-    (solves-none ls (rows-of sums) (a .j) (s .pre .1) (a .once) (a .squared) (alone-fits ls (a .j) (a .once) (a .squared) (t .before .if1 .taken) (t .if2 .left)))))
+    (solves-none ls (rows-of sums) (a .j) (s .pre .1) (a .once) (a .squared)
+    (alone-fits ls (a .j) (a .once) (a .squared) (t .before .if1 .taken) (t .if2 .left)))))
     _ (c .kind-under .ensures)
-
-further-chip-requires : tie.Need-further-chip-requires
-further-chip-requires c κs = search needs
-
-refused-requires-2 : tie.Need-refused-requires-2
-refused-requires-2 c κs = search needs
 
 returns-3 : tie.Need-returns-3
 returns-3 c =
@@ -70,9 +56,6 @@ with-one-requires c κs =
     let f = p .further-chip .ensures in
     (s .pre .0 .bytes .long, s .pre .1, beside-one _ _ (f .below) (c .if3 .left), f .off (c .if3 .left))
 
-kind-under-requires-2 : tie.Need-kind-under-requires-2
-kind-under-requires-2 c κs = search needs
-
 returns-4 : tie.Need-returns-4
 returns-4 c =
     let d = c .before in
@@ -89,15 +72,5 @@ returns-4 c =
 pub beside-card-spec : {M : Type 1} → statement M
 beside-card-spec =
     tie.close
-    (tie.spec
-    refused-requires
-    returns
-    alone-requires
-    kind-under-requires
-    returns-2
-    further-chip-requires
-    refused-requires-2
-    returns-3
-    with-one-requires
-    kind-under-requires-2
-    returns-4)
+    (tie.spec (λ c κs. search needs) returns (λ c κs. search needs) (λ c κs. search needs) returns-2 (λ c κs. search needs) (λ c κs. search needs)
+    returns-3 with-one-requires (λ c κs. search needs) returns-4)

@@ -1,36 +1,35 @@
 -- Five cards, each with the marked chips. Invariant: the cards below j have been looked at, and at most one of them reaches a block, which
 -- is not of the chip kind; its reduced sums are held.
-use mathlib.Core.Path.{_≡_, refl, sym, ap, _∙_, subst}
+use mathlib.Core.Path.{_≡_, sym, ap, subst}
 use mathlib.Core.Logic.{_⊎_, ⊎-elim}
-use mathlib.Core.Bool.{Bool, true, false}
+use mathlib.Core.Bool.{true, false}
 use mathlib.Core.List.{List}
-use Prim.Native.Nat.{ℕ, _+_, _-_, _≤_, _<_}
+use Prim.Native.Nat.{ℕ, _-_, _≤_, _<_}
 use native.Mathlib.Omega.{arith}
 use Rattle.base.proofs.Tally.{passes, fails}
+use Rattle.code.specs.Labels.{built-in}
 use Rattle.code.specs.Reach.{Beside, keep}
 use Rattle.code.proofs.Few.{keep-beside}
 use Rattle.marks.specs.Marks.{marked-chips}
 use Rattle.marks.specs.declared.CardMark.the-variants.{None}
+use Rattle.sums.specs.Words.{spread}
 use Rattle.sums.specs.Sums.{rows-of}
 use Rattle.reading.specs.declared.Reading.the-variants.{Several, Refused}
 use Rattle.reading.proofs.Marked.{few-chips}
 use Rattle.decode.specs.Equations.{fits-by, Solves, chips-in}
-use Rattle.decode.specs.Search.{Known, SumsAt, Looked, Held}
+use Rattle.decode.specs.Search.{SumsAt, Held}
 use Rattle.decode.proofs.Answer.{refusal}
 use Rattle.decode.proofs.Cards.{passed, none-reads, several-reads}
-use Rattle.decode.proofs.Turns.{words-long, words-small, sums-by, few-enough, too-many, unfit, found-chips, found-card, second-card, card-answers}
+use Rattle.decode.proofs.Turns.{sums-by, few-enough, too-many, unfit, found-chips, found-card, second-card, card-answers}
 use Rattle.decode.proofs.over_cards.Statement.{statement}
 use Rattle.decode.proofs.over_cards.Tie as tie
 
 abbrev Inv-cards : tie.InvT-cards
-Inv-cards labels words s m rows found₀ card₀ held-once₀ held-squared₀ j₀ found card held-once held-squared j =
+Inv-cards labels s m rows found₀ card₀ held-once₀ held-squared₀ j₀ found card held-once held-squared j =
     (j ≤ 5) × (found ≤ 1) × Held labels s (marked-chips m) j found card held-once held-squared
 
 abbrev μ-cards : tie.MeasureT-cards
-μ-cards labels words s m rows found₀ card₀ held-once₀ held-squared₀ j₀ found card held-once held-squared j = 5 - j
-
-rows-requires : tie.Need-rows-requires Inv-cards μ-cards
-rows-requires c κs = tt
+μ-cards labels s m rows found₀ card₀ held-once₀ held-squared₀ j₀ found card held-once held-squared j = 5 - j
 
 cards-holds : tie.Need-cards-holds Inv-cards μ-cards
 cards-holds c = (
@@ -41,29 +40,11 @@ cards-holds c = (
 
 -- ---- a turn
 card-word-requires : tie.Need-card-word-requires Inv-cards μ-cards
-card-word-requires c κs =
-    let s = c .before .before .before .before .before in
-    let ls = s .args .labels .now in
-    (words-long ls _ (s .pre .0) (s .pre .1), words-small ls _ (s .pre .1), c .cards-test .taken)
-
-at-x-requires : tie.Need-at-x-requires Inv-cards μ-cards
-at-x-requires c κs = tt
-
-add-requires : tie.Need-add-requires Inv-cards μ-cards
-add-requires c κs = tt
-
-at-x-squared-requires : tie.Need-at-x-squared-requires Inv-cards μ-cards
-at-x-squared-requires c κs = tt
-
-add-requires-2 : tie.Need-add-requires-2 Inv-cards μ-cards
-add-requires-2 c κs = tt
-
-off-card-requires : tie.Need-off-card-requires Inv-cards μ-cards
-off-card-requires c κs = tt
+card-word-requires c κs = c .cards-test .taken
 
 -- the two sums are those of card j
 sums : (c : tie.After-add2 Inv-cards μ-cards) → let a = c .before .before in let l = a .before .before .before .before in
-    let s = l .before .before .before .before in SumsAt (s .args .labels .now) (s .args .s) (l .cards .j) (a .add .result) (c .add2 .result)
+    let s = l .before .before .before in SumsAt (s .args .labels .now) (s .args .s) (l .cards .j) (a .add .result) (c .add2 .result)
 sums c =
     let y = c .before in
     let a = y .before in
@@ -71,41 +52,45 @@ sums c =
     let g = x .before in
     let l = g .before .before in
     let r = l .before in
-    let s = r .before .before .before in
-    sums-by (s .args .labels .now) (s .pre .0) (s .args .s) (l .cards .j) (g .before .cards-test .taken) (s .args .words .now) (s .pre .1) _ (r .rows .ensures)
+    let s = r .before .before in
+    sums-by (s .args .labels .now) (s .pre .0) (s .args .s) (l .cards .j) (g .before .cards-test .taken)
+    (spread built-in) (ap spread (sym (s .pre .1))) _ (r .rows .ensures)
     (g .card-word .result) _ _ _ _ (g .card-word .ensures) (x .at-x .ensures) (y .at-x-squared .ensures) (a .add .ensures) (c .add2 .ensures)
 
 -- the chips to solve for are those off card j
-off : (c : tie.After-off-card Inv-cards μ-cards) → let l = c .before .before .before .before .before .before .before in Beside (l .cards .j) (chips-in (c .off-card .result))
+off : (c : tie.After-off-card Inv-cards μ-cards) → let l = c .before .before .before .before .before .before .before in
+    Beside (l .cards .j) (chips-in (c .off-card .result))
 off c =
     let l = c .before .before .before .before .before .before .before in
-    let s = l .before .before .before .before in
+    let s = l .before .before .before in
     subst (Beside (l .cards .j)) (sym (c .off-card .ensures)) (keep-beside (l .cards .j) (marked-chips (s .args .m)) (few-chips (s .args .m) (s .pre .2)))
 
 fits-requires : tie.Need-fits-requires Inv-cards μ-cards
 fits-requires c κs =
     let at = c .before .before .before .before .before .before in
-    let s = at .before .before .before .before .before in
+    let s = at .before .before .before .before in
     (s .pre .0 .bytes .long, at .cards-test .taken, off c)
 
 solve-requires : tie.Need-solve-requires Inv-cards μ-cards
 solve-requires c κs =
     let f = c .before in
     let at = f .before .before .before .before .before .before .before in
-    let s = at .before .before .before .before .before in
+    let s = at .before .before .before .before in
     (s .pre .0 .bytes .long, at .cards-test .taken, off (f .before), passes (f .fits2 .ensures) (c .if1 .taken))
 
 -- the change solves for the marked chips off card j
 solved : (c : tie.After-solve Inv-cards μ-cards) → let o = c .before .before .before in let a = o .before .before .before in
-    let l = a .before .before .before .before in let s = l .before .before .before .before in
-    Solves (s .args .labels .now) (rows-of (s .args .s)) (l .cards .j) (keep (l .cards .j) (marked-chips (s .args .m))) (a .add .result) (o .before .add2 .result) (c .solve .result)
+    let l = a .before .before .before .before in let s = l .before .before .before in
+    Solves (s .args .labels .now) (rows-of (s .args .s)) (l .cards .j) (keep (l .cards .j) (marked-chips (s .args .m)))
+    (a .add .result) (o .before .add2 .result) (c .solve .result)
 solved c =
     let o = c .before .before .before in
     let a = o .before .before .before in
     let l = a .before .before .before .before in
-    let s = l .before .before .before .before in
+    let s = l .before .before .before in
     let ls = s .args .labels .now in
-    subst (λ (qs : List ℕ). Solves ls (rows-of (s .args .s)) (l .cards .j) qs (a .add .result) (o .before .add2 .result) (c .solve .result)) (o .off-card .ensures)
+    subst (λ (qs : List ℕ). Solves ls (rows-of (s .args .s)) (l .cards .j) qs (a .add .result) (o .before .add2 .result) (c .solve .result))
+    (o .off-card .ensures)
     (subst (λ (z : List ℕ). Solves ls z (l .cards .j) (chips-in (o .off-card .result)) (a .add .result) (o .before .add2 .result) (c .solve .result))
     (l .before .rows .ensures) (c .solve .ensures))
 
@@ -113,12 +98,6 @@ of-chip-kind-requires : tie.Need-of-chip-kind-requires Inv-cards μ-cards
 of-chip-kind-requires c κs =
     let at = c .before .before .before .before .before .before .before .before .before in
     subst (λ (x : ℕ). x < 5) (sym (solved c .within .card)) (at .cards-test .taken)
-
-count-requires : tie.Need-count-requires Inv-cards μ-cards
-count-requires c κs = tt
-
-chips-kind-requires : tie.Need-chips-kind-requires Inv-cards μ-cards
-chips-kind-requires c κs = tt
 
 returns : tie.Need-returns Inv-cards μ-cards
 returns c =
@@ -128,7 +107,7 @@ returns c =
     let A = v .before .before .before .before in
     let at = A .before .before .before .before .before in
     let l = at .before in
-    let s = l .before .before .before .before in
+    let s = l .before .before .before in
     let m = s .args .m in
     found-chips (s .args .labels .now) (s .pre .0) (marked-chips m) (few-chips m (s .pre .2)) (s .args .s) (l .cards .j) (at .cards-test .taken) _ _ (sums A)
     (v .solve .result) (solved v) (few-enough m (s .pre .2) (v .solve .result) _ (k .of-chip-kind .ensures) (n .before .if2 .taken))
@@ -147,7 +126,7 @@ cards-again c =
     let a = A .before .before in
     let at = a .before .before .before in
     let l = at .before in
-    let s = l .before .before .before .before in
+    let s = l .before .before .before in
     let ls = s .args .labels .now in
     let m = s .args .m in
     let ps = marked-chips m in
@@ -166,7 +145,8 @@ cards-again c =
         below = here;
         looked = λ b k. found-card ls (s .pre .0) ps few (s .args .s) (l .cards .j) here _ _ (sums A) (w .1 .result) (solved v) many b k (l .cards .card)
             (rw none at (held .looked b k));
-        fits = λ e. subst (λ (qs : List ℕ). fits-by ls (l .cards .j) qs (a .add .result) (A .add2 .result) ≡ true) (f .before .off-card .ensures) (passes (f .fits2 .ensures) (w .0 .taken));
+        fits = λ e. subst (λ (qs : List ℕ). fits-by ls (l .cards .j) qs (a .add .result) (A .add2 .result) ≡ true) (f .before .off-card .ensures)
+            (passes (f .fits2 .ensures) (w .0 .taken));
         sums = λ e. sums A;
       },
     ))
@@ -177,7 +157,8 @@ cards-again c =
         below = held .below;
         looked = λ b k. passed ls (s .pre .0) ps few b (l .cards .j) (l .cards .found) (l .cards .card)
             (unfit ls (s .pre .0) ps few (s .args .s) (l .cards .j) here _ _ (sums A)
-            (subst (λ (qs : List ℕ). fits-by ls (l .cards .j) qs (a .add .result) (A .add2 .result) ≡ false) (f .before .off-card .ensures) (fails (f .fits2 .ensures) (w .0 .left))) b k) (held .looked b k);
+            (subst (λ (qs : List ℕ). fits-by ls (l .cards .j) qs (a .add .result) (A .add2 .result) ≡ false) (f .before .off-card .ensures)
+            (fails (f .fits2 .ensures) (w .0 .left))) b k) (held .looked b k);
         fits = held .fits;
         sums = held .sums;
       },
@@ -186,11 +167,12 @@ cards-again c =
 
 -- ---- after the loop
 -- at most two blocks are found, and all five cards have been looked at, or two of them reach one
-left : (c : tie.Left-cards Inv-cards μ-cards) → let l = c .before in let s = l .before .before .before .before in
-    (c .cards-test .found ≤ 2) × Held (s .args .labels .now) (s .args .s) (marked-chips (s .args .m)) 5 (c .cards-test .found) (l .cards .card) (l .cards .held-once) (l .cards .held-squared)
+left : (c : tie.Left-cards Inv-cards μ-cards) → let l = c .before in let s = l .before .before .before in
+    (c .cards-test .found ≤ 2) × Held (s .args .labels .now) (s .args .s) (marked-chips (s .args .m)) 5 (c .cards-test .found)
+    (l .cards .card) (l .cards .held-once) (l .cards .held-squared)
 left c =
     let l = c .before in
-    let s = l .before .before .before .before in
+    let s = l .before .before .before in
     let m = s .args .m in
     let held = l .cards .inv .2 in
     ⊎-elim
@@ -205,40 +187,31 @@ left c =
       omega arith,
       record {
         below = held .below;
-        looked = λ b k. second-card (s .args .labels .now) (s .pre .0) (marked-chips m) (few-chips m (s .pre .2)) (s .args .s) (l .cards .j) (w .0 .taken) _ _ (sums A)
-            (w .9 .result) (solved v) b k (l .cards .card) (rw (w .12 .taken) at (held .looked b k));
+        looked = λ b k. second-card (s .args .labels .now) (s .pre .0) (marked-chips m) (few-chips m (s .pre .2)) (s .args .s)
+            (l .cards .j) (w .0 .taken) _ _ (sums A) (w .9 .result) (solved v) b k (l .cards .card) (rw (w .12 .taken) at (held .looked b k));
         fits = λ e. absurd (omega arith);
         sums = λ e. absurd (omega arith);
       },
     ))
     (c .cards-test .came)
 
-refused-requires : tie.Need-refused-requires Inv-cards μ-cards
-refused-requires c κs = tt
-
 returns-2 : tie.Need-returns-2 Inv-cards μ-cards
 returns-2 c =
     let at = c .before .before in
-    let s = at .before .before .before .before .before in
+    let s = at .before .before .before .before in
     let m = s .args .m in
     refusal (s .args .labels .now) None (marked-chips m) (s .args .s) (c .refused .result) (Refused 10) (c .refused .ensures)
     (λ b k. none-reads (s .args .labels .now) (s .pre .0) (marked-chips m) (few-chips m (s .pre .2)) b (at .before .cards .card)
     (rw (c .before .if4 .taken) at (left at .1 .looked b k)))
 
-refused-requires-2 : tie.Need-refused-requires-2 Inv-cards μ-cards
-refused-requires-2 c κs = tt
-
 returns-3 : tie.Need-returns-3 Inv-cards μ-cards
 returns-3 c =
     let at = c .before .before .before in
-    let s = at .before .before .before .before .before in
+    let s = at .before .before .before .before in
     let m = s .args .m in
     refusal (s .args .labels .now) None (marked-chips m) (s .args .s) (c .refused2 .result) (Several (at .before .cards .card)) (c .refused2 .ensures)
     (λ b k. several-reads (s .args .labels .now) (s .pre .0) (marked-chips m) (few-chips m (s .pre .2)) b (at .before .cards .card)
     (rw (c .before .if5 .taken) at (left at .1 .looked b k)))
-
-off-card-requires-2 : tie.Need-off-card-requires-2 Inv-cards μ-cards
-off-card-requires-2 c κs = tt
 
 -- neither none nor two is one
 one : (c : tie.Else5 Inv-cards μ-cards) → c .before .before .cards-test .found ≡ 1
@@ -248,18 +221,16 @@ solve-requires-2 : tie.Need-solve-requires-2 Inv-cards μ-cards
 solve-requires-2 c κs =
     let left-at = c .before .before .before in
     let l = left-at .before in
-    let s = l .before .before .before .before in
+    let s = l .before .before .before in
     let m = s .args .m in
     let held = left left-at .1 in
     let card = l .cards .card in (
       s .pre .0 .bytes .long,
       held .below,
       subst (Beside card) (sym (c .off-card2 .ensures)) (keep-beside card (marked-chips m) (few-chips m (s .pre .2))),
-      subst (λ (qs : List ℕ). fits-by (s .args .labels .now) card qs (l .cards .held-once) (l .cards .held-squared) ≡ true) (sym (c .off-card2 .ensures)) (held .fits (one (c .before))),
+      subst (λ (qs : List ℕ). fits-by (s .args .labels .now) card qs (l .cards .held-once) (l .cards .held-squared) ≡ true)
+          (sym (c .off-card2 .ensures)) (held .fits (one (c .before))),
     )
-
-count-requires-2 : tie.Need-count-requires-2 Inv-cards μ-cards
-count-requires-2 c κs = tt
 
 returns-4 : tie.Need-returns-4 Inv-cards μ-cards
 returns-4 c =
@@ -267,12 +238,13 @@ returns-4 c =
     let o = v .before in
     let left-at = o .before .before .before in
     let l = left-at .before in
-    let s = l .before .before .before .before in
+    let s = l .before .before .before in
     let m = s .args .m in
     let ls = s .args .labels .now in
     let held = left left-at .1 in
     let card = l .cards .card in
-    let solves = subst (λ (qs : List ℕ). Solves ls (rows-of (s .args .s)) card qs (l .cards .held-once) (l .cards .held-squared) (v .solve2 .result)) (o .off-card2 .ensures)
+    let solves = subst (λ (qs : List ℕ). Solves ls (rows-of (s .args .s)) card qs (l .cards .held-once) (l .cards .held-squared) (v .solve2 .result))
+    (o .off-card2 .ensures)
     (subst (λ (z : List ℕ). Solves ls z card (chips-in (o .off-card2 .result)) (l .cards .held-once) (l .cards .held-squared) (v .solve2 .result))
     (l .before .rows .ensures) (v .solve2 .ensures)) in
     card-answers ls (s .pre .0) (marked-chips m) (few-chips m (s .pre .2)) (s .args .s) card (held .below) _ _ (held .sums (one (o .before)))
@@ -281,31 +253,6 @@ returns-4 c =
 pub over-cards-spec : {M : Type 1} → statement M
 over-cards-spec =
     tie.close
-    (tie.spec
-    Inv-cards
-    μ-cards
-    rows-requires
-    cards-holds
-    card-word-requires
-    at-x-requires
-    add-requires
-    at-x-squared-requires
-    add-requires-2
-    off-card-requires
-    fits-requires
-    solve-requires
-    of-chip-kind-requires
-    count-requires
-    chips-kind-requires
-    returns
-    add-j
-    cards-less
-    cards-again
-    refused-requires
-    returns-2
-    refused-requires-2
-    returns-3
-    off-card-requires-2
-    solve-requires-2
-    count-requires-2
-    returns-4)
+    (tie.spec Inv-cards μ-cards (λ c κs. tt) cards-holds card-word-requires (λ c κs. tt) (λ c κs. tt) (λ c κs. tt) (λ c κs. tt) (λ c κs. tt)
+    fits-requires solve-requires of-chip-kind-requires (λ c κs. tt) (λ c κs. tt) returns add-j cards-less cards-again (λ c κs. tt) returns-2
+    (λ c κs. tt) returns-3 (λ c κs. tt) solve-requires-2 (λ c κs. tt) returns-4)

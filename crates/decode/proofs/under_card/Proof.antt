@@ -1,49 +1,30 @@
 -- The marked card's reduced sums, and one search: with the marked chips, or beside the card alone.
-use mathlib.Core.Path.{_≡_, refl, sym, ap, _∙_, subst}
-use mathlib.Core.Bool.{true, false}
+use mathlib.Core.Path.{_≡_, sym, ap, _∙_, subst}
+use mathlib.Core.Bool.{false}
 use mathlib.Core.List.{List}
 use Prim.Native.Nat.{ℕ}
 use native.Mathlib.Omega.{arith}
 use Rattle.base.proofs.Tally.{passes, fails}
+use Rattle.code.specs.Labels.{built-in}
 use Rattle.code.specs.Reach.{Beside, keep}
 use Rattle.code.proofs.Few.{keep-beside}
 use Rattle.marks.specs.Marks.{chips-of, marked-chips}
 use Rattle.marks.specs.declared.CardMark.the-variants.{Card}
+use Rattle.sums.specs.Words.{spread}
 use Rattle.sums.specs.Sums.{rows-of}
 use Rattle.reading.proofs.Marked.{few-chips}
 use Rattle.reading.proofs.Searches.{beside-chips}
 use Rattle.decode.specs.Equations.{fits-by, Solves, chips-in}
 use Rattle.decode.specs.Search.{SumsAt}
 use Rattle.decode.specs.Decode.{Answers}
-use Rattle.decode.proofs.Turns.{words-long, words-small, sums-by}
+use Rattle.decode.proofs.Turns.{sums-by}
 use Rattle.decode.proofs.Beside.{none-answers, found-answers, beside-marked}
 use borrow.Author.Needs.{needs}
 use Rattle.decode.proofs.under_card.Statement.{statement}
 use Rattle.decode.proofs.under_card.Tie as tie
 
-rows-requires : tie.Need-rows-requires
-rows-requires c κs = search needs
-
-card-word-requires : tie.Need-card-word-requires
-card-word-requires c κs =
-    let s = c .before .before .before in
-    let ls = s .args .labels .now in
-    (words-long ls _ (s .pre .0) (s .pre .1), words-small ls _ (s .pre .1), s .pre .3)
-
-at-x-requires : tie.Need-at-x-requires
-at-x-requires c κs = search needs
-
-add-requires : tie.Need-add-requires
-add-requires c κs = search needs
-
-at-x-squared-requires : tie.Need-at-x-squared-requires
-at-x-squared-requires c κs = search needs
-
-add-requires-2 : tie.Need-add-requires-2
-add-requires-2 c κs = search needs
-
 -- the two sums are those of the marked card
-sums : (c : tie.After-add2) → let a = c .before .before in let s = a .before .before .before .before .before .before in
+sums : (c : tie.After-add2) → let a = c .before .before in let s = a .before .before .before .before .before in
     SumsAt (s .args .labels .now) (s .args .s) (s .args .j) (a .add .result) (c .add2 .result)
 sums c =
     let y = c .before in
@@ -51,53 +32,45 @@ sums c =
     let x = a .before in
     let g = x .before in
     let r = g .before in
-    let s = r .before .before .before in
-    sums-by (s .args .labels .now) (s .pre .0) (s .args .s) (s .args .j) (s .pre .3) (s .args .words .now) (s .pre .1) _ (r .rows .ensures)
+    let s = r .before .before in
+    sums-by (s .args .labels .now) (s .pre .0) (s .args .s) (s .args .j) (s .pre .3) (spread built-in) (ap spread (sym (s .pre .1))) _ (r .rows .ensures)
     (g .card-word .result) _ _ _ _ (g .card-word .ensures) (x .at-x .ensures) (y .at-x-squared .ensures) (a .add .ensures) (c .add2 .ensures)
-
-beside-card-requires : tie.Need-beside-card-requires
-beside-card-requires c κs = search needs
 
 returns : tie.Need-returns
 returns c =
     let t = c .before in
     let A = t .before .before in
     let r = A .before .before .before .before .before in
-    let s = r .before .before .before in
+    let s = r .before .before in
     let none : marked-chips (s .args .m) ≡ chips-of 0 0 0 = ap (λ (n : ℕ). chips-of n (s .args .m .first) (s .args .m .second)) (t .if1 .taken) in
     subst (λ (ps : List ℕ). Answers (s .args .labels .now) (Card (s .args .j)) ps (s .args .s) (c .beside-card .result)) (sym none)
     (c .beside-card .ensures (s .args .s) (r .rows .ensures) (sums A))
 
-off-card-requires : tie.Need-off-card-requires
-off-card-requires c κs = search needs
-
 -- the chips to solve for are the marked ones off the card, whichever search it is
-chips : (c : tie.After-off-card) → let s = c .before .before .before .before .before .before .before .before .before .before .before in
+chips : (c : tie.After-off-card) → let s = c .before .before .before .before .before .before .before .before .before .before in
     (f : ℕ) → chips-in (c .off-card .result) ≡ keep (s .args .j) (beside-chips (marked-chips (s .args .m)) f)
 chips c f =
     let e = c .before in
-    let s = e .before .before .before .before .before .before .before .before .before .before in
+    let s = e .before .before .before .before .before .before .before .before .before in
     let m = s .args .m in
     c .off-card .ensures ∙ ap (keep (s .args .j)) (sym (beside-marked (m .count) (m .first) (m .second) f (e .if1 .left)))
 
 fits-requires : tie.Need-fits-requires
 fits-requires c κs =
     let A = c .before .before .before in
-    let s = A .before .before .before .before .before .before .before .before in
+    let s = A .before .before .before .before .before .before .before in
     let m = s .args .m in
-    (s .pre .0 .bytes .long, s .pre .3, subst (Beside (s .args .j)) (sym (c .off-card .ensures)) (keep-beside (s .args .j) (marked-chips m) (few-chips m (s .pre .2))))
+    let off = subst (Beside (s .args .j)) (sym (c .off-card .ensures)) (keep-beside (s .args .j) (marked-chips m) (few-chips m (s .pre .2))) in
+    (s .pre .0 .bytes .long, s .pre .3, off)
 
 solve-requires : tie.Need-solve-requires
 solve-requires c κs =
     let f = c .before in
     let A = f .before .before .before .before in
-    let s = A .before .before .before .before .before .before .before .before in
+    let s = A .before .before .before .before .before .before .before in
     let m = s .args .m in
     let off = subst (Beside (s .args .j)) (sym (f .before .off-card .ensures)) (keep-beside (s .args .j) (marked-chips m) (few-chips m (s .pre .2))) in
     (s .pre .0 .bytes .long, s .pre .3, off, passes (f .fits2 .ensures) (c .if2 .taken))
-
-kind-under-requires : tie.Need-kind-under-requires
-kind-under-requires c κs = search needs
 
 returns-2 : tie.Need-returns-2
 returns-2 c =
@@ -106,18 +79,16 @@ returns-2 c =
     let A = o .before .before .before in
     let a = A .before .before in
     let r = a .before .before .before in
-    let s = r .before .before .before in
+    let s = r .before .before in
     let m = s .args .m in
     let ls = s .args .labels .now in
     let j = s .args .j in
     let d = v .solve .result in
-    found-answers ls (s .pre .0) (marked-chips m) (few-chips m (s .pre .2)) (s .args .s) j (s .pre .3) (a .add .result) (A .add2 .result) (sums A) 0 (omega arith) d
+    found-answers ls (s .pre .0) (marked-chips m) (few-chips m (s .pre .2)) (s .args .s) j (s .pre .3) (a .add .result) (A .add2 .result)
+    (sums A) 0 (omega arith) d
     (subst (λ (qs : List ℕ). Solves ls (rows-of (s .args .s)) j qs (a .add .result) (A .add2 .result) d) (chips o 0)
     (subst (λ (z : List ℕ). Solves ls z j (chips-in (o .off-card .result)) (a .add .result) (A .add2 .result) d) (r .rows .ensures) (v .solve .ensures)))
     _ (c .kind-under .ensures)
-
-refused-requires : tie.Need-refused-requires
-refused-requires c κs = search needs
 
 returns-3 : tie.Need-returns-3
 returns-3 c =
@@ -125,30 +96,18 @@ returns-3 c =
     let o = f .before in
     let A = o .before .before .before in
     let a = A .before .before in
-    let s = a .before .before .before .before .before .before in
+    let s = a .before .before .before .before .before in
     let m = s .args .m in
     let ls = s .args .labels .now in
     let j = s .args .j in
     none-answers ls (s .pre .0) (marked-chips m) (few-chips m (s .pre .2)) (s .args .s) j (s .pre .3) (a .add .result) (A .add2 .result) (sums A)
-    (λ p hp. subst (λ (qs : List ℕ). fits-by ls j qs (a .add .result) (A .add2 .result) ≡ false) (chips o p) (fails (f .fits2 .ensures) (c .before .if2 .left)))
+    (λ p hp. subst (λ (qs : List ℕ). fits-by ls j qs (a .add .result) (A .add2 .result) ≡ false) (chips o p)
+    (fails (f .fits2 .ensures) (c .before .if2 .left)))
     (c .refused .result) (c .refused .ensures)
 
 pub under-card-spec : {M : Type 1} → statement M
 under-card-spec =
     tie.close
-    (tie.spec
-    rows-requires
-    card-word-requires
-    at-x-requires
-    add-requires
-    at-x-squared-requires
-    add-requires-2
-    beside-card-requires
-    returns
-    off-card-requires
-    fits-requires
-    solve-requires
-    kind-under-requires
-    returns-2
-    refused-requires
-    returns-3)
+    (tie.spec (λ c κs. search needs) (λ c κs. search needs) (λ c κs. search needs) (λ c κs. search needs) (λ c κs. search needs)
+    (λ c κs. search needs) (λ c κs. search needs) returns (λ c κs. search needs) fits-requires solve-requires (λ c κs. search needs) returns-2
+    (λ c κs. search needs) returns-3)

@@ -1,4 +1,4 @@
--- `lines::card_line` meets its contract: the block number, the card after it, and the rest of the line.
+-- The block number, the card after it, and the rest of the line.
 use borrow.Author.Needs.{needs}
 use Rattle.lines.proofs.Pieces.{joined}
 use Rattle.lines.proofs.card_line.Statement.{statement}

@@ -1,4 +1,4 @@
--- `lines::chips_line` meets its contract: the block number, and the rest of the line after it.
+-- The block number, and the rest of the line after it.
 use borrow.Author.Needs.{needs}
 use Rattle.lines.proofs.Pieces.{joined}
 use Rattle.lines.proofs.chips_line.Statement.{statement}

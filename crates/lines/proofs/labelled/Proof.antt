@@ -1,4 +1,4 @@
--- `lines::labelled` meets its contract: the word, and the digits after it.
+-- The word, and the digits after it.
 use mathlib.Core.Path.{refl}
 use borrow.Author.Needs.{needs}
 use Rattle.lines.proofs.Pieces.{joined}

@@ -1,4 +1,4 @@
--- `lines::number` meets its contract: the digits that `io::decimal` gives are those of `decimal`.
+-- The digits that `io::decimal` gives are those of `decimal`.
 use Prim.Native.Nat.{ℕ}
 use mathlib.Core.Path.{_∙_, subst}
 use mathlib.Core.List.{List}

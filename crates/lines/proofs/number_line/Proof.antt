@@ -1,4 +1,4 @@
--- `lines::number_line` meets its contract: the word and the number, and a newline after them.
+-- The word and the number, and a newline after them.
 use mathlib.Core.Path.{refl}
 use mathlib.Core.List.{append-assoc}
 use borrow.Author.Needs.{needs}

@@ -1,4 +1,4 @@
--- `lines::per_thousand` meets its contract: the quotient of the definition, 0 where there is no block.
+-- The quotient of the definition, 0 where there is no block.
 use borrow.Author.Needs.{needs}
 use Rattle.lines.proofs.PerThousand.{none-of, quotient}
 use Rattle.lines.proofs.per_thousand.Statement.{statement}

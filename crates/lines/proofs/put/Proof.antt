@@ -1,4 +1,4 @@
--- `lines::put` meets its contract. The loop's invariant: the first `i` bytes of the piece stand from `at` on, and there was room for them.
+-- The loop's invariant: the first `i` bytes of the piece stand from `at` on, and there was room for them.
 use Prim.Native.Nat.{ℕ, _+_, _-_, _≤_, _<_}
 use mathlib.Core.Path.{_≡_, refl, sym, ap, _∙_}
 use mathlib.Core.List.{List, _++_, append-assoc}

@@ -1,4 +1,4 @@
--- `lines::sound_line` meets its contract: the number is the one that `per_thousand` gives.
+-- The number is the one that `per_thousand` gives.
 use borrow.Author.Needs.{needs}
 use Rattle.lines.proofs.sound_line.Statement.{statement}
 use Rattle.lines.proofs.sound_line.Tie as tie

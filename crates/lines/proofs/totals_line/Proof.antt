@@ -1,4 +1,4 @@
--- `lines::totals_line` meets its contract: five pieces, one after the other.
+-- Five pieces, one after the other.
 use borrow.Author.Needs.{needs}
 use Rattle.lines.proofs.Pieces.{joined}
 use Rattle.lines.proofs.totals_line.Statement.{statement}

@@ -1,4 +1,4 @@
--- `lines::word_line` meets its contract: the block number, and the word after it.
+-- The block number, and the word after it.
 use mathlib.Core.Path.{refl}
 use borrow.Author.Needs.{needs}
 use Rattle.lines.proofs.Pieces.{joined}

@@ -17,11 +17,4 @@ returns-2 c = (simp (eq-eqb _ 4 (c .before .before .before .before .before .if1 
 pub from-slice-spec : {M : Type 1} → statement M
 from-slice-spec =
     tie.close
-    (tie.spec
-    returns
-    (λ c. search needs)
-    (λ c κs. search needs)
-    (λ c. search needs)
-    (λ c. search needs)
-    (λ c. search needs)
-    returns-2)
+    (tie.spec returns (λ c. search needs) (λ c κs. search needs) (λ c. search needs) (λ c. search needs) (λ c. search needs) returns-2)

@@ -1,4 +1,4 @@
--- `program::bank_text` meets its contract: four pieces, one after the other.
+-- Four pieces, one after the other.
 use mathlib.Core.Path.{refl}
 use borrow.Author.Needs.{needs}
 use Rattle.lines.proofs.Pieces.{joined}

@@ -1,4 +1,4 @@
--- `program::block_line` meets its contract, reading by reading: each arm puts the line of its answer.
+-- Reading by reading: each arm puts the line of its answer.
 use borrow.Author.Needs.{needs}
 use Rattle.program.proofs.block_line.Statement.{statement}
 use Rattle.program.proofs.block_line.Tie as tie

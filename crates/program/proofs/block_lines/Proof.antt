@@ -1,4 +1,4 @@
--- `program::block_lines` meets its contract. The loop's invariant: the lines of the first k blocks are put, each as its block reads.
+-- The loop's invariant: the lines of the first k blocks are put, each as its block reads.
 use Prim.Native.Nat.{ℕ, _+_, _*_, _-_, _≤_}
 use mathlib.Core.Path.{_≡_, refl, subst, _∙_}
 use native.Mathlib.Omega.{arith}

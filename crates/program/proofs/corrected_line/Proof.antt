@@ -1,4 +1,4 @@
--- `program::corrected_line` meets its contract, kind by kind: each arm puts the line of its answer.
+-- Kind by kind: each arm puts the line of its answer.
 use borrow.Author.Needs.{needs}
 use Rattle.program.proofs.corrected_line.Statement.{statement}
 use Rattle.program.proofs.corrected_line.Tie as tie

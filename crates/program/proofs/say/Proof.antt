@@ -1,4 +1,4 @@
--- `program::say` meets its contract: each way that it goes has put the text of the input.
+-- Each way that it goes has put the text of the input.
 use mathlib.Core.Path.{sym, ap}
 use borrow.Author.Needs.{needs}
 use lib.Seq.{length-take-le}

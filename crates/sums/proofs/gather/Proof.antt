@@ -1,16 +1,26 @@
--- All the bytes; what is lent for reading stays as it is.
-use mathlib.Core.Path.{refl}
-use Rattle.sums.specs.Words.{gathered}
+-- A block's 45 positions are those of its five cards.
+use Prim.Native.Nat.{ℕ, _*_}
+use lib.ListN.{getD}
+use Rattle.field.specs.Field.{_⊕_}
+use Rattle.code.specs.Labels.{built-in}
+use Rattle.sums.specs.Words.{spread, gathered}
+use Rattle.sums.proofs.Cards.{five-cards}
 use borrow.Author.Needs.{needs}
 use Rattle.sums.proofs.gather.Statement.{statement}
 use Rattle.sums.proofs.gather.Tie as tie
 
-gather-first-requires : tie.Need-gather-first-requires
-gather-first-requires c κs = search needs
-
 returns : tie.Need-returns
-unfolding gathered
-returns c = record { word = c .gather-first .ensures; bytes-kept = refl; words-kept = refl }
+unfolding _⊕_ gathered
+returns c =
+    let w₃ = c .before in
+    let w₂ = w₃ .before in
+    let w₁ = w₂ .before in
+    let w₀ = w₁ .before in
+    let b = w₀ .before .before .args .b .now in
+    five-cards (λ (p : ℕ). getD b p 0 * getD (spread built-in) p 0) _ _ _ _ _ (w₀ .gather-card .ensures) (w₁ .gather-card2 .ensures)
+    (w₂ .gather-card3 .ensures) (w₃ .gather-card4 .ensures) (c .gather-card5 .ensures)
 
 pub gather-spec : {M : Type 1} → statement M
-gather-spec = tie.close (tie.spec gather-first-requires returns)
+gather-spec =
+    tie.close
+    (tie.spec (λ c κs. search needs) (λ c κs. search needs) (λ c κs. search needs) (λ c κs. search needs) (λ c κs. search needs) returns)

@@ -5,21 +5,6 @@ use borrow.Author.Needs.{needs}
 use Rattle.sums.proofs.last_row.Statement.{statement}
 use Rattle.sums.proofs.last_row.Tie as tie
 
-shared-slice-read-result : tie.Need-shared-slice-read-result
-shared-slice-read-result c = search needs
-
-shared-slice-read-result-2 : tie.Need-shared-slice-read-result-2
-shared-slice-read-result-2 c = search needs
-
-shared-slice-read-result-3 : tie.Need-shared-slice-read-result-3
-shared-slice-read-result-3 c = search needs
-
-shared-slice-read-result-4 : tie.Need-shared-slice-read-result-4
-shared-slice-read-result-4 c = search needs
-
-shared-slice-read-result-5 : tie.Need-shared-slice-read-result-5
-shared-slice-read-result-5 c = search needs
-
 returns : tie.Need-returns
 unfolding _⊕_
 returns c = five-bytes (c .before .before .before .before .before .args .b .now)
@@ -27,10 +12,4 @@ returns c = five-bytes (c .before .before .before .before .before .args .b .now)
 pub last-row-spec : {M : Type 1} → statement M
 last-row-spec =
     tie.close
-    (tie.spec
-    shared-slice-read-result
-    shared-slice-read-result-2
-    shared-slice-read-result-3
-    shared-slice-read-result-4
-    shared-slice-read-result-5
-    returns)
+    (tie.spec (λ c. search needs) (λ c. search needs) (λ c. search needs) (λ c. search needs) (λ c. search needs) returns)

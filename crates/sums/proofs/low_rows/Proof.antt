@@ -5,21 +5,6 @@ use borrow.Author.Needs.{needs}
 use Rattle.sums.proofs.low_rows.Statement.{statement}
 use Rattle.sums.proofs.low_rows.Tie as tie
 
-word-requires : tie.Need-word-requires
-word-requires c κs = search needs
-
-word-requires-2 : tie.Need-word-requires-2
-word-requires-2 c κs = search needs
-
-word-requires-3 : tie.Need-word-requires-3
-word-requires-3 c κs = search needs
-
-word-requires-4 : tie.Need-word-requires-4
-word-requires-4 c κs = search needs
-
-word-requires-5 : tie.Need-word-requires-5
-word-requires-5 c κs = search needs
-
 returns : tie.Need-returns
 unfolding _⊕_
 returns c =
@@ -33,10 +18,4 @@ returns c =
 pub low-rows-spec : {M : Type 1} → statement M
 low-rows-spec =
     tie.close
-    (tie.spec
-    word-requires
-    word-requires-2
-    word-requires-3
-    word-requires-4
-    word-requires-5
-    returns)
+    (tie.spec (λ c κs. search needs) (λ c κs. search needs) (λ c κs. search needs) (λ c κs. search needs) (λ c κs. search needs) returns)

@@ -4,30 +4,6 @@ use borrow.Author.Needs.{needs}
 use Rattle.sums.proofs.rows.Statement.{statement}
 use Rattle.sums.proofs.rows.Tie as tie
 
-part-requires : tie.Need-part-requires
-part-requires c κs = search needs
-
-part-requires-2 : tie.Need-part-requires-2
-part-requires-2 c κs = search needs
-
-part-requires-3 : tie.Need-part-requires-3
-part-requires-3 c κs = search needs
-
-part-requires-4 : tie.Need-part-requires-4
-part-requires-4 c κs = search needs
-
-part-requires-5 : tie.Need-part-requires-5
-part-requires-5 c κs = search needs
-
-part-requires-6 : tie.Need-part-requires-6
-part-requires-6 c κs = search needs
-
-part-requires-7 : tie.Need-part-requires-7
-part-requires-7 c κs = search needs
-
-part-requires-8 : tie.Need-part-requires-8
-part-requires-8 c κs = search needs
-
 returns : tie.Need-returns
 unfolding byte-of
 returns c =
@@ -52,13 +28,5 @@ returns c =
 pub rows-spec : {M : Type 1} → statement M
 rows-spec =
     tie.close
-    (tie.spec
-    part-requires
-    part-requires-2
-    part-requires-3
-    part-requires-4
-    part-requires-5
-    part-requires-6
-    part-requires-7
-    part-requires-8
-    returns)
+    (tie.spec (λ c κs. search needs) (λ c κs. search needs) (λ c κs. search needs) (λ c κs. search needs) (λ c κs. search needs)
+    (λ c κs. search needs) (λ c κs. search needs) (λ c κs. search needs) returns)

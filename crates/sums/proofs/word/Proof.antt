@@ -5,30 +5,6 @@ use Rattle.sums.proofs.Cards.{word-is}
 use Rattle.sums.proofs.word.Statement.{statement}
 use Rattle.sums.proofs.word.Tie as tie
 
-place-requires : tie.Need-place-requires
-place-requires c κs = omega arith
-
-place-requires-2 : tie.Need-place-requires-2
-place-requires-2 c κs = omega arith
-
-place-requires-3 : tie.Need-place-requires-3
-place-requires-3 c κs = omega arith
-
-place-requires-4 : tie.Need-place-requires-4
-place-requires-4 c κs = omega arith
-
-place-requires-5 : tie.Need-place-requires-5
-place-requires-5 c κs = omega arith
-
-place-requires-6 : tie.Need-place-requires-6
-place-requires-6 c κs = omega arith
-
-place-requires-7 : tie.Need-place-requires-7
-place-requires-7 c κs = omega arith
-
-place-requires-8 : tie.Need-place-requires-8
-place-requires-8 c κs = omega arith
-
 returns : tie.Need-returns
 unfolding _⊕_
 returns c =
@@ -47,13 +23,5 @@ returns c =
 pub word-spec : {M : Type 1} → statement M
 word-spec =
     tie.close
-    (tie.spec
-    place-requires
-    place-requires-2
-    place-requires-3
-    place-requires-4
-    place-requires-5
-    place-requires-6
-    place-requires-7
-    place-requires-8
-    returns)
+    (tie.spec (λ c κs. omega arith) (λ c κs. omega arith) (λ c κs. omega arith) (λ c κs. omega arith) (λ c κs. omega arith) (λ c κs. omega arith)
+    (λ c κs. omega arith) (λ c κs. omega arith) returns)

@@ -12,13 +12,5 @@ in-card c = rw (c .before .before .kind2 .given .1) (c .packed3 .ensures)
 pub of-kind-spec : {M : Type 1} → statement M
 of-kind-spec =
     tie.close
-    (tie.spec
-    (λ c. search needs)
-    (λ c κs. search needs)
-    (λ c. search needs)
-    (λ c κs. search needs)
-    (λ c. search needs)
-    (λ c κs. search needs)
-    (λ c. search needs)
-    in-chips
-    in-card)
+    (tie.spec (λ c. search needs) (λ c κs. search needs) (λ c. search needs) (λ c κs. search needs) (λ c. search needs) (λ c κs. search needs)
+    (λ c. search needs) in-chips in-card)

@@ -12,13 +12,5 @@ refused c = rw (c .before .before .r3 .given .1) (c .packed2 .ensures)
 pub of-reading-spec : {M : Type 1} → statement M
 of-reading-spec =
     tie.close
-    (tie.spec
-    (λ c. search needs)
-    (λ c κs. search needs)
-    (λ c. search needs)
-    (λ c κs. search needs)
-    (λ c. search needs)
-    (λ c κs. search needs)
-    (λ c. search needs)
-    several
-    refused)
+    (tie.spec (λ c. search needs) (λ c κs. search needs) (λ c. search needs) (λ c κs. search needs) (λ c. search needs) (λ c κs. search needs)
+    (λ c. search needs) several refused)

@@ -23,15 +23,6 @@ loop-holds c = (omega arith, omega arith, refl)
 is-stray-requires : tie.Need-is-stray-requires Inv-loop μ-loop
 is-stray-requires c κs = (c .loop-test .taken, c .before .before .pre)
 
-add-n : tie.Need-add-n Inv-loop μ-loop
-add-n c = omega arith
-
-add-i : tie.Need-add-i Inv-loop μ-loop
-add-i c = omega arith
-
-loop-less : tie.Need-loop-less Inv-loop μ-loop
-loop-less c = omega arith
-
 loop-again : tie.Need-loop-again Inv-loop μ-loop
 loop-again c =
     let l = c .before .before .before in
@@ -48,13 +39,4 @@ returns c = let e : c .before .loop .i ≡ 9 = omega arith in rw e at (c .before
 pub count-strays-spec : {M : Type 1} → statement M
 count-strays-spec =
     tie.close
-    (tie.spec
-    Inv-loop
-    μ-loop
-    loop-holds
-    is-stray-requires
-    add-n
-    add-i
-    loop-less
-    loop-again
-    returns)
+    (tie.spec Inv-loop μ-loop loop-holds is-stray-requires (λ c. omega arith) (λ c. omega arith) (λ c. omega arith) loop-again returns)

@@ -7,22 +7,13 @@ use Rattle.decode.proofs.chips.off_card.Tie as tie
 returns : tie.Need-returns
 returns c = none-marked _ _ _ _ (c .if1 .taken)
 
-one-off-requires : tie.Need-one-off-requires
-one-off-requires c κs = search needs
-
 returns-2 : tie.Need-returns-2
 returns-2 c = one-marked _ _ _ _ _ (c .before .if2 .taken) (c .one-off .ensures)
-
-one-off-requires-2 : tie.Need-one-off-requires-2
-one-off-requires-2 c κs = search needs
 
 returns-3 : tie.Need-returns-3
 returns-3 c =
     let b = c .before in
     second-on _ _ _ _ (b .before .before .if1 .left) (b .before .if2 .left) _ (b .if3 .taken) (c .one-off2 .ensures)
-
-one-off-requires-3 : tie.Need-one-off-requires-3
-one-off-requires-3 c κs = search needs
 
 returns-4 : tie.Need-returns-4
 returns-4 c =
@@ -38,12 +29,4 @@ returns-5 c =
 pub off-card-spec : {M : Type 1} → statement M
 off-card-spec =
     tie.close
-    (tie.spec
-    returns
-    one-off-requires
-    returns-2
-    one-off-requires-2
-    returns-3
-    one-off-requires-3
-    returns-4
-    returns-5)
+    (tie.spec returns (λ c κs. search needs) returns-2 (λ c κs. search needs) returns-3 (λ c κs. search needs) returns-4 returns-5)

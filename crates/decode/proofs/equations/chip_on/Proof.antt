@@ -24,9 +24,6 @@ mul-at c = omega (arith, c .before .pre .2)
 chips-holds : tie.Need-chips-holds Inv-chips μ-chips
 chips-holds c = (omega arith, refl, λ h l. absurd (omega arith))
 
-cast-k : tie.Need-cast-k Inv-chips μ-chips
-cast-k c = omega arith
-
 add-add : tie.Need-add-add Inv-chips μ-chips
 add-add c = omega (arith, c .chips-test .taken, c .before .before .before .pre .2)
 
@@ -41,9 +38,6 @@ shared-slice-read-add-2 c =
     let t = c .before .before in
     let s = t .before .before .before in
     omega (arith, t .chips-test .taken, s .pre .0, s .pre .1)
-
-add-requires : tie.Need-add-requires Inv-chips μ-chips
-add-requires c κs = search needs
 
 add-i : tie.Need-add-i Inv-chips μ-chips
 add-i c = omega (arith, c .before .before .before .before .chips-test .taken)
@@ -89,20 +83,5 @@ returns-2 c =
 pub chip-on-spec : {M : Type 1} → statement M
 chip-on-spec =
     tie.close
-    (tie.spec
-    Inv-chips
-    μ-chips
-    mul-own
-    mul-at
-    chips-holds
-    cast-k
-    add-add
-    shared-slice-read-add
-    add-add-2
-    shared-slice-read-add-2
-    add-requires
-    add-i
-    chips-less
-    chips-again
-    returns
-    returns-2)
+    (tie.spec Inv-chips μ-chips mul-own mul-at chips-holds (λ c. omega arith) add-add shared-slice-read-add add-add-2 shared-slice-read-add-2
+    (λ c κs. search needs) add-i chips-less chips-again returns returns-2)

@@ -9,13 +9,11 @@ use Rattle.decode.proofs.equations.further_chip.Statement.{statement}
 use Rattle.decode.proofs.equations.further_chip.Tie as tie
 
 abbrev Inv-cards : tie.InvT-cards
-Inv-cards labels once squared j v chip₀ other₀ chip other = (other ≤ 5) × (chip ≡ 9 * j) × ((k : ℕ) → k < other → (i : ℕ) → i < 9 → entry labels j (9 * k + i) ≢ v)
+Inv-cards labels once squared j v chip₀ other₀ chip other = (other ≤ 5) × (chip ≡ 9 * j)
+    × ((k : ℕ) → k < other → (i : ℕ) → i < 9 → entry labels j (9 * k + i) ≢ v)
 
 abbrev μ-cards : tie.MeasureT-cards
 μ-cards labels once squared j v chip₀ other₀ chip other = 5 - other
-
-divide-requires : tie.Need-divide-requires Inv-cards μ-cards
-divide-requires c κs = tt
 
 mul-chip : tie.Need-mul-chip Inv-cards μ-cards
 mul-chip c = omega (arith, c .before .before .pre .1)
@@ -65,22 +63,11 @@ returns-2 c =
     let s = v .before .before in
     let here = on .before .cards-test .taken in
     further-off (s .args .labels .now) (s .pre .0) (s .args .j) (s .pre .1) (s .args .once) (s .args .squared) (v .divide .result) (omega arith) (omega arith)
-    (s .pre .2) (v .divide .ensures (s .pre .2)) (9 * l .cards .other + on .chip-on .result) (omega (arith, here, c .if1 .taken)) (on .chip-on .ensures .there (c .if1 .taken))
+    (s .pre .2) (v .divide .ensures (s .pre .2)) (9 * l .cards .other + on .chip-on .result) (omega (arith, here, c .if1 .taken))
+    (on .chip-on .ensures .there (c .if1 .taken))
 
 pub further-chip-spec : {M : Type 1} → statement M
 further-chip-spec =
     tie.close
-    (tie.spec
-    Inv-cards
-    μ-cards
-    divide-requires
-    mul-chip
-    cards-holds
-    chip-on-requires
-    mul-chip-2
-    add-chip
-    add-other
-    cards-less
-    cards-again
-    returns
+    (tie.spec Inv-cards μ-cards (λ c κs. tt) mul-chip cards-holds chip-on-requires mul-chip-2 add-chip add-other cards-less cards-again returns
     returns-2)

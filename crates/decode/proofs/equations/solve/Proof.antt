@@ -20,7 +20,8 @@ returns c =
     let a = s .args in
     let e = c .before .if1 .taken in
     let fit = of-count (λ (l : List ℕ). fits-by (a .labels .now) (a .j) l (a .once) (a .squared) ≡ true) (a .w .count) 0 _ _ e (s .pre .3) in
-    by-count (λ (l : List ℕ). Solves (a .labels .now) (a .rows) (a .j) l (a .once) (a .squared) (c .alone .result)) (a .w .count) 0 (a .w .first) (a .w .second) e
+    by-count (λ (l : List ℕ). Solves (a .labels .now) (a .rows) (a .j) l (a .once) (a .squared) (c .alone .result)) (a .w .count) 0 (a .w .first)
+    (a .w .second) e
     (subst (Solves (a .labels .now) (a .rows) (a .j) [] (a .once) (a .squared)) (sym (c .alone .ensures)) (solves-none _ _ _ (s .pre .1) _ _ fit))
 
 with-one-requires : tie.Need-with-one-requires
@@ -31,7 +32,8 @@ with-one-requires c κs =
 returns-2 : tie.Need-returns-2
 returns-2 c =
     let a = c .before .before .before .before .args in
-    by-count (λ (l : List ℕ). Solves (a .labels .now) (a .rows) (a .j) l (a .once) (a .squared) (c .with-one .result)) (a .w .count) 1 (a .w .first) (a .w .second)
+    by-count (λ (l : List ℕ). Solves (a .labels .now) (a .rows) (a .j) l (a .once) (a .squared) (c .with-one .result)) (a .w .count) 1 (a .w .first)
+    (a .w .second)
     (c .before .if2 .taken) (c .with-one .ensures)
 
 with-two-requires : tie.Need-with-two-requires

@@ -11,42 +11,6 @@ use borrow.Author.Needs.{needs}
 use Rattle.decode.proofs.equations.with_two.Statement.{statement}
 use Rattle.decode.proofs.equations.with_two.Tie as tie
 
-entry-at-requires : tie.Need-entry-at-requires
-entry-at-requires c κs = search needs
-
-entry-at-requires-2 : tie.Need-entry-at-requires-2
-entry-at-requires-2 c κs = search needs
-
-mul-requires : tie.Need-mul-requires
-mul-requires c κs = search needs
-
-add-requires : tie.Need-add-requires
-add-requires c κs = search needs
-
-add-requires-2 : tie.Need-add-requires-2
-add-requires-2 c κs = search needs
-
-mul-requires-2 : tie.Need-mul-requires-2
-mul-requires-2 c κs = search needs
-
-divide-requires : tie.Need-divide-requires
-divide-requires c κs = search needs
-
-mul-requires-3 : tie.Need-mul-requires-3
-mul-requires-3 c κs = search needs
-
-add-requires-3 : tie.Need-add-requires-3
-add-requires-3 c κs = search needs
-
-divide-requires-2 : tie.Need-divide-requires-2
-divide-requires-2 c κs = search needs
-
-bumped-requires : tie.Need-bumped-requires
-bumped-requires c κs = search needs
-
-bumped-requires-2 : tie.Need-bumped-requires-2
-bumped-requires-2 c κs = search needs
-
 returns : tie.Need-returns
 returns c =
     let w = c .before .before in
@@ -64,17 +28,6 @@ returns c =
 pub with-two-spec : {M : Type 1} → statement M
 with-two-spec =
     tie.close
-    (tie.spec
-    entry-at-requires
-    entry-at-requires-2
-    mul-requires
-    add-requires
-    add-requires-2
-    mul-requires-2
-    divide-requires
-    mul-requires-3
-    add-requires-3
-    divide-requires-2
-    bumped-requires
-    bumped-requires-2
-    returns)
+    (tie.spec (λ c κs. search needs) (λ c κs. search needs) (λ c κs. search needs) (λ c κs. search needs) (λ c κs. search needs)
+    (λ c κs. search needs) (λ c κs. search needs) (λ c κs. search needs) (λ c κs. search needs) (λ c κs. search needs) (λ c κs. search needs)
+    (λ c κs. search needs) returns)

@@ -57,17 +57,5 @@ returns-4 c = sym (ap (marked _) (c .enum-told .given .1))
 pub after-spec : {M : Type 1} → statement M
 after-spec =
     tie.close
-    (tie.spec
-    (λ c. search needs)
-    cast-with-chip
-    with-chip-requires
-    (λ c. search needs)
-    cast-without-chip
-    without-chip-requires
-    (λ c. search needs)
-    cast-t9
-    (λ c. search needs)
-    returns
-    returns-2
-    returns-3
-    returns-4)
+    (tie.spec (λ c. search needs) cast-with-chip with-chip-requires (λ c. search needs) cast-without-chip without-chip-requires (λ c. search needs)
+    cast-t9 (λ c. search needs) returns returns-2 returns-3 returns-4)

@@ -17,12 +17,4 @@ returns-3 c = sym (ap asked-in-range (c .before .c3 .given .1))
 pub asked-in-range-spec : {M : Type 1} → statement M
 asked-in-range-spec =
     tie.close
-    (tie.spec
-    (λ c. search needs)
-    (λ c. search needs)
-    (λ c. search needs)
-    (λ c. search needs)
-    returns
-    returns-2
-    returns-3
-    (λ c. search needs))
+    (tie.spec (λ c. search needs) (λ c. search needs) (λ c. search needs) (λ c. search needs) returns returns-2 returns-3 (λ c. search needs))
