@@ -5,6 +5,7 @@
 --   none-holds                 where no number is given, no cause holds
 --   or-else, lowest-append     the causes of one part of a call, and then those of the next
 --   by-refused, by-done        a call that is refused, or is not; by-accepted: what one says that is not; by-map: both ways carried over
+--   Agreed, by-agree, by-same  two outcomes of one call
 use Prim.Native.Nat.{ℕ, zero, suc, _≤_, _<_}
 use mathlib.Core.Path.{_≡_, refl, sym, ap, ap₂, _∙_, subst}
 use mathlib.Core.Logic.{_≢_, _⊎_, inl, inr}
@@ -14,7 +15,7 @@ use native.Mathlib.Omega.{arith}
 use lib.Dec.{T, ltb, leb}
 use borrow.Author.Tests.{ltb-true, ltb-false, leb-true, le-ltb}
 use Rattle.base.specs.Base.{if}
-use Rattle.answer.specs.Answer.{Answer, refused, By}
+use Rattle.answer.specs.Answer.{Answer, refused, but-card, By}
 use Rattle.answer.specs.Cause.{Cause, cause, lesser, lowest}
 
 -- ---- the lowest number is the least of those that hold
@@ -185,3 +186,18 @@ by-accepted (suc n) a unchanged did e b = absurd (omega (arith, e))
 pub by-map : (n : ℕ) (a : Answer) (U D U′ D′ : Type 0) → (U → U′) → (n ≡ 0 → D → D′) → By n a U D → By n a U′ D′
 by-map zero a U D U′ D′ f g d = g refl d
 by-map (suc n) a U D U′ D′ f g (e, u) = (e, f u)
+
+-- ---- a call made twice
+-- the answers are the same, but for the card with 11, and so is what is left
+abbrev pub Agreed : {A : Type 0} → Answer → Answer → A → A → Type 0
+Agreed a a′ x x′ = (but-card a ≡ but-card a′) × (x ≡ x′)
+
+pub by-agree : {A : Type 0} (n : ℕ) (a a′ : Answer) (old x x′ : A) (D D′ : Type 0) → By n a (x ≡ old) D → By n a′ (x′ ≡ old) D′ → (D → D′ → Agreed a a′ x x′)
+    → Agreed a a′ x x′
+by-agree zero a a′ old x x′ D D′ w v f = f w v
+by-agree (suc n) a a′ old x x′ D D′ (e, u) (e′, u′) f = (ap but-card (e ∙ sym e′), u ∙ sym u′)
+
+-- of a call that leaves nothing
+pub by-same : (n : ℕ) (a a′ : Answer) (D D′ : Type 0) → By n a (Unit {0}) D → By n a′ (Unit {0}) D′ → (D → D′ → but-card a ≡ but-card a′) → but-card a ≡ but-card a′
+by-same zero a a′ D D′ w v f = f w v
+by-same (suc n) a a′ D D′ (e, u) (e′, u′) f = ap but-card (e ∙ sym e′)

@@ -38,11 +38,12 @@ neither : (s t : Bool) → (s || t) ≡ false → (s ≡ false) × (t ≡ false)
 neither true t e = absurd (mathlib.Core.Bool.true≢false e)
 neither false t e = (refl, e)
 
-pub sized : (n : ℕ) → lowest (size-causes n) ≡ 0 → (n % 45 ≡ 0) × (n ≤ 46080)
+pub sized : (n : ℕ) → lowest (size-causes n) ≡ 0 → (n % 45 ≡ 0) × (n ≤ 46080) × (n ≢ 0)
 sized n e =
     let h = none-holds 3 (bad-bank n) [] e .0 in
-    let v = neither (not (eqb (n % 45) 0)) (ltb 46080 n) (neither (eqb n 0) (not (eqb (n % 45) 0) || ltb 46080 n) h .1) in
-    (eqb-true (n % 45) 0 (not-false (eqb (n % 45) 0) (v .0)), ltb-false 46080 n (v .1))
+    let w = neither (eqb n 0) (not (eqb (n % 45) 0) || ltb 46080 n) h in
+    let v = neither (not (eqb (n % 45) 0)) (ltb 46080 n) (w .1) in
+    (eqb-true (n % 45) 0 (not-false (eqb (n % 45) 0) (v .0)), ltb-false 46080 n (v .1), eqb-false n 0 (w .0))
 
 -- ---- a block's place
 place-is : (n k : ℕ) → lowest (place-causes n k) ≡ or-else (lowest (size-causes n)) (lowest (cause 5 (past n k) ∷ []))

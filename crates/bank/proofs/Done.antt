@@ -16,7 +16,7 @@ use lib.Dec.{eqb}
 use lib.ListN.{length, take, drop, replicate, getD, set, take-append-drop, length-take, length-drop, length-set, getD-replicate}
 use lib.Seq.{drop-drop, getD-set-same, getD-set-other}
 use borrow.Author.Tests.{eq-eqb, ne-eqb}
-use Rattle.base.specs.Base.{if, tally}
+use Rattle.base.specs.Base.{tally}
 use Rattle.base.proofs.Tests.{same}
 use Rattle.base.proofs.Tally.{tally-ext, count-some, count-same, at-most}
 use Rattle.answer.specs.Answer.{Answer, done, clean, in-chips, in-card, counted, refused, refused-card, By}
@@ -30,8 +30,9 @@ use Rattle.store.specs.Store.{store-cause, StoreDone}
 use Rattle.block.specs.Read.{read-cause, mend-cause, ReadDone, MendDone, LookDone}
 use Rattle.block.proofs.Causes.{mend-marks}
 use Rattle.bank.specs.Calls.{blocks, block, with-block, clear-cause, put-cause, get-cause, patrol-cause, report-cause}
-use Rattle.bank.specs.Calls.{ClearDone, PutDone, GetDone, PatrolDone, ReportDone, class, how-many, totals, EachReads}
+use Rattle.bank.specs.Calls.{ClearDone, PutDone, GetDone, PatrolDone, ReportDone, class, how-many, CountsEach}
 use Rattle.bank.specs.Count.{CountedBlocks}
+use Rattle.bank.proofs.Each.{extended, extended-at, extended-below, extended-reads}
 
 -- ---- block k, as the code takes it: from 45 · k up to 45 · k + 45
 abbrev pub part : List ℕ → ℕ → List ℕ
@@ -110,7 +111,7 @@ pub report-done : (bank : List ℕ) (m : Marks) (t : List ℕ) (a : Answer) → 
     → a ≡ counted (getD t 0 0) (getD t 1 0) (getD t 2 0) (getD t 3 0) (getD t 4 0) → ReportDone bank m a bank
 report-done bank m t a e w q = record {
   kept = refl;
-  answer = by-done _ a (Unit {0}) ((f : ℕ → Answer) × EachReads (block bank) (blocks bank) m f × (a ≡ totals f (blocks bank))) e (
+  answer = by-done _ a (Unit {0}) (CountsEach (block bank) (blocks bank) m a) e (
     w .answers,
     w .reads,
     q ∙ simp (
@@ -129,18 +130,6 @@ no-blocks bank m = record { answers = λ k. done; reads = λ k h. absurd (omega 
   where
     zeros : (i : ℕ) → i < 5 → getD {A = ℕ} (replicate 5 0) i 0 ≡ 0
     zeros i h = getD-replicate 5 i 0 0 h
-
--- the answers below n, and a at n
-extended : (ℕ → Answer) → ℕ → Answer → ℕ → Answer
-extended f n a k = if (eqb k n) a (f k)
-
-extended-at : (f : ℕ → Answer) (n : ℕ) (a : Answer) → extended f n a n ≡ a
-unfolding extended
-extended-at f n a = ap (λ (t : Bool). if t a (f n)) (eq-eqb n n refl)
-
-extended-below : (f : ℕ → Answer) (n : ℕ) (a : Answer) (k : ℕ) → k ≢ n → extended f n a k ≡ f k
-unfolding extended
-extended-below f n a k ne = ap (λ (t : Bool). if t a (f k)) (ne-eqb k n ne)
 
 -- a block that reads so is counted in one of the five places
 pub class-below : (m : Marks) (b out : List ℕ) (a : Answer) (x : List ℕ) → ReadsUnder m b out a x → class a < 5
@@ -162,19 +151,15 @@ module _ (bank : List ℕ) (m : Marks) (n : ℕ) (t : List ℕ) (w : CountedBloc
   unfolding tally
   one-more a x i t′ r e q = record {
     answers = extended (w .answers) n a;
-    reads = λ k h. each-reads k (same k n) h;
+    reads = extended-reads (block bank) m (w .answers) n a (w .reads) (x, r);
     five = ap length q ∙ length-set t i (getD t i 0 + 1) ∙ w .five;
     each = λ j h. each-total j (same j i) h;
   }
     where
-      each-reads : (k : ℕ) → (k ≡ n) ⊎ (k ≢ n) → k < n + 1 → (x : List ℕ) × ReadsUnder m (block bank k) [] (extended (w .answers) n a k) x
-      each-reads k (inl z) h = rw (z, extended-at (w .answers) n a) (x, r)
-      each-reads k (inr z) h = rw (extended-below (w .answers) n a k z) (w .reads k (omega arith))
-
       -- below n they are counted as before
       before : (j : ℕ) → how-many (extended (w .answers) n a) n j ≡ how-many (w .answers) n j
       before j = tally-ext n (λ k. eqb (class (extended (w .answers) n a k)) j) (λ k. eqb (class (w .answers k)) j)
-          (λ k h. ap (λ (y : Answer). eqb (class y) j) (extended-below (w .answers) n a k (λ z. omega arith)))
+          (λ k h. ap (λ (y : Answer). eqb (class y) j) (extended-below (w .answers) n a k h))
 
       inside : i < 5
       inside = rw e (class-below m (block bank n) [] a x r)

@@ -1,3 +1,6 @@
 pub mod Causes
+pub mod Accepted
+pub mod Each
 pub mod Done
 pub mod Tied
+pub mod Decided

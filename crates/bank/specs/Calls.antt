@@ -5,7 +5,7 @@
 --   block bank k         block k; with-block bank k x: the bank with x in its place
 --   ..-cause             the number of the refusal, 0 where nothing is refused
 --   ClearDone, PutDone, GetDone, PatrolDone, ReportDone   the contracts; a primed name is what the bytes hold after the call
---   EachReads, totals    how each block reads, and how many read as each
+--   EachReads, totals    how each block reads, and how many read as each; CountsEach: an answer that counts them
 use Prim.Native.Nat.{ℕ, _+_, _*_, _/_, _%_, _<_}
 use mathlib.Core.Path.{_≡_}
 use mathlib.Core.Bool.{Bool, _||_, not}
@@ -108,10 +108,13 @@ totals f n = counted (how-many f n 0) (how-many f n 1) (how-many f n 2) (how-man
 abbrev pub EachReads : (ℕ → List ℕ) → ℕ → Marks → (ℕ → Answer) → Type 0
 EachReads b n m f = (k : ℕ) → k < n → (x : List ℕ) × ReadsUnder m (b k) [] (f k) x
 
+-- the answer a counts how they read
+abbrev pub CountsEach : (ℕ → List ℕ) → ℕ → Marks → Answer → Type 0
+CountsEach b n m a = (f : ℕ → Answer) × EachReads b n m f × (a ≡ totals f n)
+
 pub record ReportDone (bank : List ℕ) (m : Marks) (a : Answer) (bank′ : List ℕ) : Type 0 where
   pub kept : bank′ ≡ bank
-  pub answer : By (report-cause (length bank) m) a (Unit {0})
-      ((f : ℕ → Answer) × EachReads (block bank) (blocks bank) m f × (a ≡ totals f (blocks bank)))
+  pub answer : By (report-cause (length bank) m) a (Unit {0}) (CountsEach (block bank) (blocks bank) m a)
 
 -- the answer that a Reported stands for
 abbrev pub report-answer : Reported → Answer

@@ -1,10 +1,11 @@
 -- Membership in a list, as a fact and as a test.
 --
 --   in-is-in, is-in-in   the test passes exactly for the members
+--   append-in            a member of one list or of the other is one of both together
 use mathlib.Core.Logic.{_⊎_, inl, inr}
 use mathlib.Core.Path.{_≡_, refl, sym, ap, _∙_, subst}
 use mathlib.Core.Bool.{Bool, true, false, _||_}
-use mathlib.Core.List.{List, [], _∷_}
+use mathlib.Core.List.{List, [], _∷_, _++_}
 use Prim.Native.Nat.{ℕ}
 use lib.Dec.{T, eqb}
 use borrow.Author.Tests.{eqb-true, eq-eqb}
@@ -26,3 +27,10 @@ is-in-in p (a ∷ l) h = go (eqb p a) refl h (λ z. is-in-in p l z)
     go : (t : Bool) → eqb p a ≡ t → t || is-in p l ≡ true → (is-in p l ≡ true → In p l) → (p ≡ a) ⊎ In p l
     go true e q g = inl (eqb-true p a e)
     go false e q g = inr (g q)
+
+pub append-in : (p : ℕ) (l k : List ℕ) → In p l ⊎ In p k → In p (l ++ k)
+append-in p [] k (inl i) = absurd i
+append-in p [] k (inr i) = i
+append-in p (a ∷ l) k (inl (inl e)) = inl e
+append-in p (a ∷ l) k (inl (inr i)) = inr (append-in p l k (inl i))
+append-in p (a ∷ l) k (inr i) = inr (append-in p l k (inr i))

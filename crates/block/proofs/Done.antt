@@ -16,7 +16,7 @@ use Rattle.answer.specs.Answer.{Answer, done, clean, in-chips, in-card, counted
 use Rattle.answer.proofs.Causes.{by-refused, by-done}
 use Rattle.marks.specs.Marks.{marked-chips, marks-cause}
 use Rattle.marks.specs.declared.Marks.{Marks}
-use Rattle.marks.proofs.Laws.{cause-lawful}
+use Rattle.marks.proofs.Laws.{cause-lawful, few-chips}
 use Rattle.code.specs.Block.{Block}
 use Rattle.code.specs.Labels.{built-in}
 use Rattle.code.proofs.BuiltIn.{built-in-set}
@@ -24,7 +24,6 @@ use Rattle.sums.specs.Sums.{IsSums, all-zero}
 use Rattle.sums.specs.declared.Sums.{Sums}
 use Rattle.sums.proofs.Zero.{zero-lawful}
 use Rattle.reading.specs.Reading.{reading-answer, ReadsUnder}
-use Rattle.reading.proofs.Marked.{few-chips}
 use Rattle.reading.proofs.Facts.{clean-reads}
 use Rattle.change.specs.Change.{applied}
 use Rattle.decode.specs.Decode.{Decodes}

@@ -1,7 +1,7 @@
 -- Every reading that is not refused says exactly what S is, and clean exactly of a lawful block.
 --
 --   one-not-none, one-not-two   a set with one member is not empty, and has not two
---   exactly, clean-exactly      THE STATEMENTS
+--   accepted-exactly, exactly, clean-exactly   THE STATEMENTS
 use mathlib.Core.Logic.{_≢_, _↔_}
 use mathlib.Core.Path.{_≡_, refl, sym, ap, _∙_, subst}
 use mathlib.Core.List.{List, []}
@@ -13,17 +13,16 @@ use Rattle.answer.specs.Answer.{Answer, done, clean, in-chips, in-card, counted
 use Rattle.answer.proofs.Causes.{by-accepted}
 use Rattle.marks.specs.Marks.{marked-chips}
 use Rattle.marks.specs.declared.Marks.{Marks}
-use Rattle.marks.proofs.Laws.{cause-lawful}
+use Rattle.marks.proofs.Laws.{lawful-cause, cause-lawful, few-chips}
 use Rattle.code.specs.Block.{Block, Lawful, OneMember, NoMember, TwoMembers}
 use Rattle.code.specs.Labels.{built-in}
 use Rattle.code.proofs.BuiltIn.{built-in-set}
 use Rattle.reading.specs.Allowed.{OfChipKind}
 use Rattle.reading.specs.Reading.{ReadsUnder}
-use Rattle.reading.proofs.Marked.{few-chips}
 use Rattle.reading.proofs.Facts.{unchanged, clean-only, clean-lawful}
 use Rattle.block.specs.Read.{read-cause, ReadDone, is-corrected, record-in}
-use Rattle.block.specs.Exactly.{Fits, ReadsExactly, CleanExactly}
-use Rattle.block.proofs.Causes.{read-none, part-whole}
+use Rattle.block.specs.Exactly.{Fits, AcceptedExactly, ReadsExactly, CleanExactly}
+use Rattle.block.proofs.Causes.{read-none, read-marks, mend-none, mend-marks, part-whole}
 
 one-not-none : (P : List ℕ → Type 0) (x : List ℕ) → OneMember P x → NoMember P → ⊥
 one-not-none P x one none = none x (one .0)
@@ -65,6 +64,12 @@ module _ (b : List ℕ) (m : Marks) (out out′ : List ℕ) where
   )
   exact done w = absurd w
   exact (counted u v x y z) w = absurd w
+
+pub accepted-exactly : AcceptedExactly
+accepted-exactly n m o = (
+  ((λ e. let h = read-none n m o e in (h .0, h .1, cause-lawful m (h .2))), λ h. read-marks n m o (h .0) (h .1) ∙ lawful-cause m (h .2)),
+  ((λ e. let h = mend-none n m e in (h .0, cause-lawful m (h .1))), λ h. mend-marks n m (h .0) ∙ lawful-cause m (h .1)),
+)
 
 pub exactly : ReadsExactly
 unfolding Exact

@@ -3,3 +3,4 @@ pub mod Causes
 pub mod Done
 pub mod Exact
 pub mod Tied
+pub mod Decided

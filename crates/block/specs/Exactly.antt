@@ -1,5 +1,6 @@
 -- Demand 3, first sentence, and demand 2, second sentence, as statements about every reading that is not refused.
 --
+--   AcceptedExactly   not refused, exactly when
 --   ReadsExactly   corrected, "none" and "several", each exactly when
 --   CleanExactly   clean exactly for the lawful blocks
 use mathlib.Core.Logic.{_↔_}
@@ -8,16 +9,21 @@ use mathlib.Core.List.{List}
 use Prim.Native.Nat.{ℕ}
 use lib.ListN.{length, take}
 use Rattle.answer.specs.Answer.{Answer, clean, number}
-use Rattle.marks.specs.Marks.{marked-chips}
+use Rattle.marks.specs.Marks.{marked-chips, LawfulMarks}
 use Rattle.marks.specs.declared.Marks.{Marks}
 use Rattle.code.specs.Block.{Block, Lawful, OneMember, NoMember, TwoMembers}
 use Rattle.code.specs.Labels.{built-in}
 use Rattle.reading.specs.Reading.{S}
-use Rattle.block.specs.Read.{read-cause, ReadDone, record-in}
+use Rattle.block.specs.Read.{read-cause, mend-cause, ReadDone, record-in}
 
 -- the set S of a block under a mark record
 abbrev pub Fits : Marks → List ℕ → List ℕ → Type 0
 Fits m b x = S built-in (m .card) (marked-chips m) b x
+
+-- Whether a reading is refused by its arguments is known from their lengths and the marks alone.
+abbrev pub AcceptedExactly : Type 0
+AcceptedExactly = (n : ℕ) (m : Marks) (o : ℕ)
+    → ((read-cause n m o ≡ 0) ↔ ((n ≡ 45) × (o ≡ 45) × LawfulMarks m)) × ((mend-cause n m ≡ 0) ↔ ((n ≡ 45) × LawfulMarks m))
 
 -- "corrected exactly when S has one member, and to that member, refused as "none" exactly when S is empty, and as "several" exactly when S has two or more"
 abbrev pub ReadsExactly : Type 0

@@ -63,9 +63,8 @@ pub fn read(received: &[u8], m: marks::Marks, out: &mut [u8]) -> reading::Readin
     let d = decode::decode(s, m);
     let r = d.reading;
     if was_corrected(r) {
-        let change = d.change;
         copy_block(received, out);
-        change::apply(out, change);
+        decode::apply(d, out);
     }
     r
 }
@@ -83,9 +82,8 @@ pub fn mend(block: &mut [u8], m: marks::Marks) -> reading::Reading
         return reading::Reading::Corrected(reading::Kind::Clean);
     }
     let made = decode::decode(s, m);
-    let change = made.change;
     // On a refusal the change is none.
-    change::apply(block, change);
+    decode::apply(made, block);
     made.reading
 }
 

@@ -23,17 +23,16 @@ use Rattle.marks.specs.Mark.{mark-cause, marked}
 use Rattle.marks.specs.declared.CardMark.{CardMark}
 use Rattle.marks.specs.declared.CardMark.the-variants.{None, Card}
 use Rattle.marks.specs.declared.Marks.{Marks}
-use Rattle.marks.proofs.Laws.{cause-lawful}
-use Rattle.code.specs.Block.{Stored, TwoMembers, OneMember}
+use Rattle.marks.proofs.Laws.{cause-lawful, few-chips}
+use Rattle.code.specs.Block.{Stored, TwoMembers, OneMember, zeros}
 use Rattle.code.specs.Labels.{built-in}
 use Rattle.code.proofs.BuiltIn.{built-in-set}
 use Rattle.code.proofs.Members.{zero-stored}
 use Rattle.reading.specs.Reading.{S, ReadsUnder}
-use Rattle.reading.proofs.Marked.{few-chips}
 use Rattle.reading.proofs.Facts.{chip-one, card-one}
 use Rattle.bank.specs.Calls.{clear-cause, put-cause, get-cause, patrol-cause}
-use Rattle.book.specs.Book.{Call, clear, put, get, patrol, report, mark, Entry, call, hit, says, Seen, Beside, beside-of}
-use Rattle.book.specs.Book.{Book, zeros, zero-book, many, size, marks-of, held-at, with-marks, with-held, with-both, CallSays, Step, Booked}
+use Rattle.book.specs.Book.{Call, clear, put, get, patrol, report, mark, Entry, call, hit, says, Seen, Rest, rest-of}
+use Rattle.book.specs.Book.{Book, zero-book, many, size, marks-of, held-at, with-marks, with-held, with-both, CallSays, Step, Booked}
 use Rattle.book.specs.Kept.{record-after, last-put, good-at, DamageAllowed, DamageOfChipKind, GivesRecord, GetsLastPut}
 use Rattle.book.proofs.Causes.{clear-none, get-none}
 
@@ -44,7 +43,7 @@ record Kept (n k : ℕ) (rec : List ℕ) (b : Book) : Type 0 where
   stored : Stored built-in rec (good-at b k)
 
 module _ (n k : ℕ) (lo : 1 ≤ n) (hi : n ≤ 1024) (inside : k < n) where
-  zeros-kept : (w : Beside) → Kept n k (replicate 34 0) (zero-book n w)
+  zeros-kept : (w : Rest) → Kept n k (replicate 34 0) (zero-book n w)
   zeros-kept w = record {
     held = length-replicate n zeros;
     good = length-replicate n zeros;
@@ -52,11 +51,11 @@ module _ (n k : ℕ) (lo : 1 ≤ n) (hi : n ≤ 1024) (inside : k < n) where
   }
 
   module _ {rec : List ℕ} {b : Book} (g : Kept n k rec b) where
-    clear-kept : (a : Answer) (b′ : Book) → By (clear-cause (size b)) a (b′ ≡ b) ((a ≡ done) × (b′ ≡ zero-book (many b) (b .beside)))
+    clear-kept : (a : Answer) (b′ : Book) → By (clear-cause (size b)) a (b′ ≡ b) ((a ≡ done) × (b′ ≡ zero-book (many b) (b .rest)))
         → Kept n k (replicate 34 0) b′
     clear-kept a b′ w =
-        let e = by-accepted (clear-cause (45 * n)) a (b′ ≡ b) ((a ≡ done) × (b′ ≡ zero-book n (b .beside))) (clear-none n lo hi) (rw (g .held) at w) in
-        rw (e .1) (zeros-kept (b .beside))
+        let e = by-accepted (clear-cause (45 * n)) a (b′ ≡ b) ((a ≡ done) × (b′ ≡ zero-book n (b .rest))) (clear-none n lo hi) (rw (g .held) at w) in
+        rw (e .1) (zeros-kept (b .rest))
 
     put-kept : (z j : ℕ) (new : List ℕ) (a : Answer) (b′ : Book)
         → By z a (b′ ≡ b) ((a ≡ done) × ((x : List ℕ) × OneMember (Stored built-in new) x × (b′ ≡ with-both b j x)))
@@ -137,7 +136,7 @@ module _ (b : Book) (k : ℕ) (rec : List ℕ) (lawful : LawfulMarks (marks-of b
 pub gets-last-put : GetsLastPut
 gets-last-put n lo hi es ss b w k out s b′ t z d =
     let f = get-none n k (marks-of b) (length out) z in
-    let g = all-kept n k lo hi (f .1) es ss (zeros-kept n k lo hi (f .1) (beside-of fresh-marks)) w in
+    let g = all-kept n k lo hi (f .1) es ss (zeros-kept n k lo hi (f .1) (rest-of fresh-marks)) w in
     let z′ : get-cause (size b) k (marks-of b) (length out) ≡ 0 = ap (λ (l : ℕ). get-cause (45 * l) k (marks-of b) (length out)) (g .held) ∙ z in
     let a = t .says .0 in
     gives b k (last-put n k (replicate 34 0) es) (cause-lawful (marks-of b) (f .2)) (g .stored) d s out a (t .says .1)

@@ -5,7 +5,7 @@
 --   either         a call is refused, and what was lent stays; or it can be done
 --   ..-runs        each kind of entry
 --   any-list       THE STATEMENT
---   all-kinds      there are such lists: one with every kind of entry, at its limits
+--   any-call, any-hit   nothing more is asked of an entry than that bytes are bytes, and that a hit lies in the bank
 use Prim.Native.Nat.{ℕ, zero, suc, _+_, _-_, _*_, _/_, _≤_, _<_}
 use mathlib.Core.Path.{_≡_, refl, sym, ap, _∙_, subst}
 use mathlib.Core.List.{List, [], _∷_, _++_}
@@ -20,19 +20,17 @@ use Rattle.answer.proofs.Causes.{by-map}
 use Rattle.marks.specs.Marks.{fresh-marks, marks-cause, marked-chips}
 use Rattle.marks.specs.Mark.{mark-cause, marked, MarkDone}
 use Rattle.marks.specs.declared.Marks.{Marks}
-use Rattle.marks.specs.declared.MarkCall.the-variants.{LiftCard}
-use Rattle.marks.proofs.Laws.{cause-lawful}
+use Rattle.marks.proofs.Laws.{cause-lawful, few-chips}
 use Rattle.code.specs.Block.{Block, OneMember, Stored}
 use Rattle.code.specs.Labels.{built-in}
 use Rattle.code.proofs.BuiltIn.{built-in-set}
 use Rattle.code.proofs.Stored.{stored-exists}
 use Rattle.reading.specs.Reading.{ReadsUnder}
-use Rattle.reading.proofs.Marked.{few-chips}
 use Rattle.reading.proofs.Exists.{reads-exist}
 use Rattle.bank.specs.Calls.{blocks, block, with-block, clear-cause, put-cause, get-cause, patrol-cause, report-cause}
-use Rattle.bank.specs.Calls.{ClearDone, PutDone, GetDone, PatrolDone, ReportDone, EachReads, totals}
+use Rattle.bank.specs.Calls.{ClearDone, PutDone, GetDone, PatrolDone, ReportDone, EachReads, CountsEach, totals}
 use Rattle.book.specs.Book.{Call, clear, put, get, patrol, report, mark, Entry, call, hit}
-use Rattle.book.specs.Book.{State, says, nothing-said, Seen, state, seen, beside-of, fresh-state}
+use Rattle.book.specs.Book.{State, says, nothing-said, Seen, state, seen, rest-of, fresh-state}
 use Rattle.book.specs.Book.{EntryDone, Ran, Bytes, Possible, AllPossible, AnyList}
 use Rattle.book.proofs.Whole.{output-long}
 use Rattle.book.proofs.Causes.{put-none, get-none, patrol-none, report-none}
@@ -126,7 +124,7 @@ record Run (n : ℕ) (σ : State) (e : Entry) : Type 0 where
 
 module _ (n : ℕ) (σ : State) (f : Fine n (σ .bank)) where
   m : Marks
-  m = σ .beside .marks
+  m = σ .rest .marks
 
   -- each block of the bank has a reading
   each-reading : marks-cause m ≡ 0 → (g : ℕ → Answer) × EachReads (block (σ .bank)) (blocks (σ .bank)) m g
@@ -141,7 +139,7 @@ module _ (n : ℕ) (σ : State) (f : Fine n (σ .bank)) where
   call-runs clear h =
       let r = either (Fine n) (clear-cause (length (σ .bank))) (σ .bank) (λ a x. (a ≡ done) × (x ≡ replicate (length (σ .bank)) 0)) f
       (λ z. (done, replicate (length (σ .bank)) 0, (refl, refl), fine-zeros n (length (σ .bank)) (f .long))) in
-      record { sees = seen (says (r .0)) [] (state (r .1) (σ .beside)); done = (r .0, r .1, r .2, refl); fine = r .3 }
+      record { sees = seen (says (r .0)) [] (state (r .1) (σ .rest)); done = (r .0, r .1, r .2, refl); fine = r .3 }
   call-runs (put k rec) h =
       let r = either (Fine n) (put-cause (length (σ .bank)) k (length rec)) (σ .bank)
       (λ a y. (a ≡ done) × ((x : List ℕ) × OneMember (Stored built-in rec) x × (y ≡ with-block (σ .bank) k x))) f (λ z.
@@ -153,14 +151,14 @@ module _ (n : ℕ) (σ : State) (f : Fine n (σ .bank)) where
         fine-with n k (σ .bank) (w .1) f (s .0) (s .1 .0 .block .long)
             (block-bytes (s .0) (s .1 .0 .block)),
       )) in
-      record { sees = seen (says (r .0)) [] (state (r .1) (σ .beside)); done = (r .0, r .1, rec, record { lent = refl; put = r .2 }, refl); fine = r .3 }
+      record { sees = seen (says (r .0)) [] (state (r .1) (σ .rest)); done = (r .0, r .1, rec, record { lent = refl; put = r .2 }, refl); fine = r .3 }
   call-runs (get k out) h =
       let r = either (λ o. Unit {0}) (get-cause (length (σ .bank)) k m (length out)) out (λ a x. ReadsUnder m (block (σ .bank) k) out a x) tt (λ z.
       let w = get-none n k m (length out) (rw (f .long) at z) in
       let s = reading m (block (σ .bank) k) out (w .2) (part-block n k (σ .bank) (w .1) f) in
       (s .0, s .1, s .2, tt)) in
       record {
-        sees = seen (says (r .0)) (r .1) (state (σ .bank) (σ .beside));
+        sees = seen (says (r .0)) (r .1) (state (σ .bank) (σ .rest));
         done =
             (r .0, σ .bank, r .1, record { kept = refl; output = r .2 }, refl);
         fine = f;
@@ -178,25 +176,25 @@ module _ (n : ℕ) (σ : State) (f : Fine n (σ .bank)) where
             (output-long m (block (σ .bank) k) (block (σ .bank) k) (s .0) (s .1) (s .2) l)
             (output-bytes m (block (σ .bank) k) (block (σ .bank) k) (s .0) (s .1) (s .2) (part-bytes n k (σ .bank) (w .0) f)),
       )) in
-      record { sees = seen (says (r .0)) [] (state (r .1) (σ .beside)); done = (r .0, r .1, r .2, refl); fine = r .3 }
+      record { sees = seen (says (r .0)) [] (state (r .1) (σ .rest)); done = (r .0, r .1, r .2, refl); fine = r .3 }
   call-runs report h =
       let r = either {X = Unit {0}} (λ x. Unit {0}) (report-cause (length (σ .bank)) m) tt
-      (λ a x. (g : ℕ → Answer) × EachReads (block (σ .bank)) (blocks (σ .bank)) m g × (a ≡ totals g (blocks (σ .bank)))) tt (λ z.
+      (λ a x. CountsEach (block (σ .bank)) (blocks (σ .bank)) m a) tt (λ z.
       let w = each-reading (report-none n m (rw (f .long) at z)) in
       (totals (w .0) (blocks (σ .bank)), tt, (w .0, w .1, refl), tt)) in
       record {
-        sees = seen (says (r .0)) [] (state (σ .bank) (σ .beside));
+        sees = seen (says (r .0)) [] (state (σ .bank) (σ .rest));
         done = (r .0, σ .bank, record { kept = refl; answer = by-map (report-cause (length (σ .bank)) m) (r .0) _ _ _ _ (λ u. tt) (λ z d. d) (r .2) }, refl);
         fine = f;
       }
   call-runs (mark c) h =
       let r = either (λ x. Unit {0}) (mark-cause m c) m (λ a x. (a ≡ done) × (x ≡ marked m c)) tt (λ z. (done, marked m c, (refl, refl), tt)) in
-      record { sees = seen (says (r .0)) [] (state (σ .bank) (beside-of (r .1))); done = (r .0, r .1, r .2, refl); fine = f }
+      record { sees = seen (says (r .0)) [] (state (σ .bank) (rest-of (r .1))); done = (r .0, r .1, r .2, refl); fine = f }
 
   runs : (e : Entry) → Possible n e → Run n σ e
   runs (call c) h = call-runs c h
   runs (hit i x) h = record {
-    sees = seen nothing-said [] (state (set (σ .bank) i x) (σ .beside));
+    sees = seen nothing-said [] (state (set (σ .bank) i x) (σ .rest));
     done = (subst (λ (l : ℕ). i < l) (sym (f .long)) (h .0), h .1, refl);
     fine = record { long = length-set (σ .bank) i x ∙ f .long; bytes = bytes-set (σ .bank) i x (f .bytes) (h .1) };
   }
@@ -212,14 +210,14 @@ runs-all n σ f (e ∷ es) h =
 pub any-list : AnyList
 any-list n es h = runs-all n (fresh-state n) (fine-zeros n (45 * n) refl) es h
 
--- such lists there are: one with every kind of entry, at its limits
-pub all-kinds : AllPossible 1024
-    (call clear ∷ call (put 1023 (replicate 34 255)) ∷ call (get 1023 (replicate 45 0)) ∷ call (patrol 1023) ∷ call report ∷ call
-    (mark LiftCard) ∷ hit 46079 255 ∷ [])
-all-kinds = (
-  tt,
-  (
-    (λ p h. subst (λ (v : ℕ). v < 256) (sym (getD-replicate 34 p 255 0 (rw length-replicate at h))) (omega arith)),
-    (tt, (tt, (tt, (tt, ((omega arith, omega arith), tt))))),
-  ),
-)
+-- ---- nothing more is asked of an entry than that bytes are bytes, and that a hit lies in the bank
+pub any-call : (n : ℕ) (c : Call) → ((k : ℕ) (rec : List ℕ) → c ≡ put k rec → Bytes rec) → Possible n (call c)
+any-call n clear h = tt
+any-call n (put k rec) h = h k rec refl
+any-call n (get k out) h = tt
+any-call n (patrol k) h = tt
+any-call n report h = tt
+any-call n (mark c) h = tt
+
+pub any-hit : (n i x : ℕ) → i < 45 * n → x < 256 → Possible n (hit i x)
+any-hit n i x l h = (l, h)

@@ -15,7 +15,7 @@ use lib.ListN.{length, set}
 use Rattle.answer.specs.Answer.{outcome-answer}
 use Rattle.reading.specs.Reading.{reading-answer}
 use Rattle.bank.specs.Calls.{report-answer}
-use Rattle.book.specs.Book.{Call, hit, Beside, State, says, nothing-said, state, seen, beside-of, CallDone, EntryDone}
+use Rattle.book.specs.Book.{Call, hit, Rest, State, says, nothing-said, state, seen, rest-of, CallDone, EntryDone}
 use Rattle.bank.proofs.clear as clear
 use Rattle.bank.proofs.clear.Kinds as clear-kinds
 use Rattle.bank.proofs.clear.Reads as clear-reads
@@ -38,40 +38,40 @@ use Rattle.bank.proofs.Tied.{clear-tied, put-tied, get-tied, patrol-tied, repor
 use Rattle.marks.proofs.Tied.{mark-tied}
 
 pub clear-called : (κs : Lifetimes.Lfts 1) (a : World.ArgsD clear.signature κs) (r : World.ResD clear.signature κs)
-    (s : Clauses.AtExit (Kinds.endedOf 1 clear-kinds.ps clear-kinds.r) κs) (w : Beside) → clear-reads.Learnt κs a r s
+    (s : Clauses.AtExit (Kinds.endedOf 1 clear-kinds.ps clear-kinds.r) κs) (w : Rest) → clear-reads.Learnt κs a r s
     → CallDone (state (now (a .0)) w) (Call.clear)
     (seen (says (outcome-answer r)) [] (state (now (s .0)) w))
 clear-called κs a r s w l = (outcome-answer r, now (s .0), clear-tied κs a r s l, refl)
 
 pub put-called : (κs : Lifetimes.Lfts 2) (a : World.ArgsD put.signature κs) (r : World.ResD put.signature κs)
-    (s : Clauses.AtExit (Kinds.endedOf 2 put-kinds.ps put-kinds.r) κs) (w : Beside) → put-reads.Learnt κs a r s
+    (s : Clauses.AtExit (Kinds.endedOf 2 put-kinds.ps put-kinds.r) κs) (w : Rest) → put-reads.Learnt κs a r s
     → CallDone (state (now (a .0)) w) (Call.put (a .1 .0) (now (a .1 .1 .0)))
     (seen (says (outcome-answer r)) [] (state (now (s .0)) w))
 put-called κs a r s w l = (outcome-answer r, now (s .0), now (s .1 .1 .0), put-tied κs a r s l, refl)
 
 pub get-called : (κs : Lifetimes.Lfts 2) (a : World.ArgsD get.signature κs) (r : World.ResD get.signature κs)
     (s : Clauses.AtExit (Kinds.endedOf 2 get-kinds.ps get-kinds.r) κs) → get-reads.Learnt κs a r s
-    → CallDone (state (now (a .0)) (beside-of (a .1 .1 .0))) (Call.get (a .1 .0) (now (a .1 .1 .1 .0)))
-    (seen (says (reading-answer r)) (now (s .1 .1 .1 .0)) (state (now (s .0)) (beside-of (a .1 .1 .0))))
+    → CallDone (state (now (a .0)) (rest-of (a .1 .1 .0))) (Call.get (a .1 .0) (now (a .1 .1 .1 .0)))
+    (seen (says (reading-answer r)) (now (s .1 .1 .1 .0)) (state (now (s .0)) (rest-of (a .1 .1 .0))))
 get-called κs a r s l = (reading-answer r, now (s .0), now (s .1 .1 .1 .0), get-tied κs a r s l, refl)
 
 pub patrol-called : (κs : Lifetimes.Lfts 1) (a : World.ArgsD patrol.signature κs) (r : World.ResD patrol.signature κs)
     (s : Clauses.AtExit (Kinds.endedOf 1 patrol-kinds.ps patrol-kinds.r) κs) → patrol-reads.Learnt κs a r s
-    → CallDone (state (now (a .0)) (beside-of (a .1 .1 .0))) (Call.patrol (a .1 .0))
-    (seen (says (reading-answer r)) [] (state (now (s .0)) (beside-of (a .1 .1 .0))))
+    → CallDone (state (now (a .0)) (rest-of (a .1 .1 .0))) (Call.patrol (a .1 .0))
+    (seen (says (reading-answer r)) [] (state (now (s .0)) (rest-of (a .1 .1 .0))))
 patrol-called κs a r s l = (reading-answer r, now (s .0), patrol-tied κs a r s l, refl)
 
 pub report-called : (κs : Lifetimes.Lfts 1) (a : World.ArgsD report.signature κs) (r : World.ResD report.signature κs)
     (s : Clauses.AtExit (Kinds.endedOf 1 report-kinds.ps report-kinds.r) κs) → report-reads.Learnt κs a r s
-    → CallDone (state (now (a .0)) (beside-of (a .1 .0))) (Call.report)
-    (seen (says (report-answer r)) [] (state (now (s .0)) (beside-of (a .1 .0))))
+    → CallDone (state (now (a .0)) (rest-of (a .1 .0))) (Call.report)
+    (seen (says (report-answer r)) [] (state (now (s .0)) (rest-of (a .1 .0))))
 report-called κs a r s l = (report-answer r, now (s .0), report-tied κs a r s l, refl)
 
 pub mark-called : (κs : Lifetimes.Lfts 0) (a : World.ArgsD mark.signature κs) (r : World.ResD mark.signature κs)
     (s : Clauses.AtExit (Kinds.endedOf 0 mark-kinds.ps mark-kinds.r) κs) (bank : List ℕ) → mark-reads.Learnt κs a r s
-    → CallDone (state bank (beside-of (a .0))) (Call.mark (a .1 .0))
-    (seen (says (outcome-answer (r .answer))) [] (state bank (beside-of (r .marks))))
+    → CallDone (state bank (rest-of (a .0))) (Call.mark (a .1 .0))
+    (seen (says (outcome-answer (r .answer))) [] (state bank (rest-of (r .marks))))
 mark-called κs a r s bank l = (outcome-answer (r .answer), r .marks, mark-tied κs a r s l, refl)
 
-pub hit-done : (σ : State) (i x : ℕ) → i < length (σ .bank) → x < 256 → EntryDone σ (hit i x) (seen nothing-said [] (state (set (σ .bank) i x) (σ .beside)))
+pub hit-done : (σ : State) (i x : ℕ) → i < length (σ .bank) → x < 256 → EntryDone σ (hit i x) (seen nothing-said [] (state (set (σ .bank) i x) (σ .rest)))
 hit-done σ i x h v = (h, v, refl)

@@ -17,14 +17,14 @@ use Rattle.marks.specs.Marks.{fresh-marks}
 use Rattle.marks.specs.Mark.{mark-cause, marked, MarkDone}
 use Rattle.marks.specs.declared.Marks.{Marks}
 use Rattle.marks.specs.declared.MarkCall.{MarkCall}
-use Rattle.code.specs.Block.{OneMember, Stored}
+use Rattle.code.specs.Block.{OneMember, Stored, zeros}
 use Rattle.code.specs.Labels.{built-in}
 use Rattle.reading.specs.Reading.{ReadsUnder}
 use Rattle.bank.specs.Calls.{blocks, block, with-block, clear-cause, put-cause, get-cause, patrol-cause, report-cause}
-use Rattle.bank.specs.Calls.{ClearDone, PutDone, GetDone, PatrolDone, ReportDone, EachReads, totals}
+use Rattle.bank.specs.Calls.{ClearDone, PutDone, GetDone, PatrolDone, ReportDone}
 use Rattle.book.specs.Book.{Call, clear, put, get, patrol, report, mark, Entry, call, hit}
-use Rattle.book.specs.Book.{Beside, State, Said, says, nothing-said, Seen, state, seen, beside-of, fresh-state}
-use Rattle.book.specs.Book.{CallDone, EntryDone, Ran, Book, zeros, zero-book, fresh-book, flat, state-of}
+use Rattle.book.specs.Book.{Rest, State, Said, says, nothing-said, Seen, state, seen, rest-of, fresh-state}
+use Rattle.book.specs.Book.{CallDone, EntryDone, Ran, Book, zero-book, fresh-book, flat, state-of}
 use Rattle.book.specs.Book.{many, size, marks-of, held-at, with-marks, with-held, with-both}
 use Rattle.book.specs.Book.{CallSays, Step, Booked, WholeList}
 use Rattle.book.proofs.Blocks.{EachLong, each-replicate, each-set, each-at, length-flat, replicate-flat, block-flat, patch-flat, hit-flat}
@@ -35,8 +35,8 @@ pub record Landed (b : Book) (τ : State) : Type 0 where
   pub long : EachLong 45 (b .held)
 
 -- the book's own bank with other blocks
-landed : (b : Book) (bank : List ℕ) → bank ≡ flat (b .held) → EachLong 45 (b .held) → Landed b (state bank (b .beside))
-landed b bank e l = record { state = ap (λ (x : List ℕ). state x (b .beside)) e; long = l }
+landed : (b : Book) (bank : List ℕ) → bank ≡ flat (b .held) → EachLong 45 (b .held) → Landed b (state bank (b .rest))
+landed b bank e l = record { state = ap (λ (x : List ℕ). state x (b .rest)) e; long = l }
 
 -- what a reading leaves in an output of 45 bytes is 45 bytes
 pub output-long : (m : Marks) (b out : List ℕ) (a : Answer) (x : List ℕ) → ReadsUnder m b out a x → length out ≡ 45 → length x ≡ 45
@@ -58,8 +58,8 @@ module _ (b : Book) (long : EachLong 45 (b .held)) where
   settled zero a τ D D′ w f = f refl w
   settled (suc n) a τ D D′ (e, u) f = (b, (e, refl), record { state = u; long = long })
 
-  unchanged : (bank : List ℕ) → bank ≡ flat (b .held) → state bank (b .beside) ≡ state-of b
-  unchanged bank e = ap (λ (x : List ℕ). state x (b .beside)) e
+  unchanged : (bank : List ℕ) → bank ≡ flat (b .held) → state bank (b .rest) ≡ state-of b
+  unchanged bank e = ap (λ (x : List ℕ). state x (b .rest)) e
 
   read-at : (k : ℕ) → k < many b → block (flat (b .held)) k ≡ held-at b k
   read-at k h = block-flat 45 (b .held) k long h
@@ -71,26 +71,26 @@ module _ (b : Book) (long : EachLong 45 (b .held)) where
   Next : Call → Answer → List ℕ → State → Type 0
   Next c a out τ = (b′ : Book) × CallSays b c a out b′ × Landed b′ τ
 
-  clear-next : (a : Answer) (bank : List ℕ) → ClearDone (flat (b .held)) a bank → Next clear a [] (state bank (b .beside))
+  clear-next : (a : Answer) (bank : List ℕ) → ClearDone (flat (b .held)) a bank → Next clear a [] (state bank (b .rest))
   unfolding ClearDone Next
   clear-next a bank w =
       let n = clear-cause (size b) in
-      let v = settled n a (state bank (b .beside)) _ (λ b′. (a ≡ done) × (b′ ≡ zero-book (many b) (b .beside)))
+      let v = settled n a (state bank (b .rest)) _ (λ b′. (a ≡ done) × (b′ ≡ zero-book (many b) (b .rest)))
       (by-map n a _ _ _ _ (unchanged bank) (λ z d. d) (rw size-flat at w))
       (λ z d. (
-        zero-book (many b) (b .beside),
+        zero-book (many b) (b .rest),
         (d .0, refl),
-        landed (zero-book (many b) (b .beside)) bank (d .1 ∙ replicate-flat 45 (many b) 0)
+        landed (zero-book (many b) (b .rest)) bank (d .1 ∙ replicate-flat 45 (many b) 0)
             (each-replicate 45 (many b) zeros refl),
       )) in
       (v .0, (refl, v .1), v .2)
 
   put-next : (k : ℕ) (rec : List ℕ) (a : Answer) (bank rec′ : List ℕ) → PutDone (flat (b .held)) k rec a bank rec′
-      → Next (put k rec) a [] (state bank (b .beside))
+      → Next (put k rec) a [] (state bank (b .rest))
   unfolding Next
   put-next k rec a bank rec′ w =
       let n = put-cause (size b) k (length rec) in
-      let v = settled n a (state bank (b .beside)) _ (λ b′. (a ≡ done) × ((x : List ℕ) × OneMember (Stored built-in rec) x × (b′ ≡ with-both b k x)))
+      let v = settled n a (state bank (b .rest)) _ (λ b′. (a ≡ done) × ((x : List ℕ) × OneMember (Stored built-in rec) x × (b′ ≡ with-both b k x)))
       (by-map n a _ _ _ _ (unchanged bank) (λ z d. d) (rw size-flat at (w .put)))
       (λ z d. let x = d .1 .0 in let one = d .1 .1 in (
         with-both b k x,
@@ -101,7 +101,7 @@ module _ (b : Book) (long : EachLong 45 (b .held)) where
       (v .0, (refl, v .1), v .2)
 
   get-next : (k : ℕ) (out : List ℕ) (a : Answer) (bank out′ : List ℕ) → GetDone (flat (b .held)) k (marks-of b) out a bank out′
-      → Next (get k out) a out′ (state bank (b .beside))
+      → Next (get k out) a out′ (state bank (b .rest))
   unfolding Next
   get-next k out a bank out′ w =
       let n = get-cause (size b) k (marks-of b) (length out) in (
@@ -114,11 +114,11 @@ module _ (b : Book) (long : EachLong 45 (b .held)) where
         landed b bank (w .kept) long,
       )
 
-  patrol-next : (k : ℕ) (a : Answer) (bank : List ℕ) → PatrolDone (flat (b .held)) k (marks-of b) a bank → Next (patrol k) a [] (state bank (b .beside))
+  patrol-next : (k : ℕ) (a : Answer) (bank : List ℕ) → PatrolDone (flat (b .held)) k (marks-of b) a bank → Next (patrol k) a [] (state bank (b .rest))
   unfolding PatrolDone Next
   patrol-next k a bank w =
       let n = patrol-cause (size b) k (marks-of b) in
-      let v = settled n a (state bank (b .beside)) _ (λ b′. (x : List ℕ) × ReadsUnder (marks-of b) (held-at b k) (held-at b k) a x × (b′ ≡ with-held b k x))
+      let v = settled n a (state bank (b .rest)) _ (λ b′. (x : List ℕ) × ReadsUnder (marks-of b) (held-at b k) (held-at b k) a x × (b′ ≡ with-held b k x))
       (by-map n a _ _ _ _ (unchanged bank) (λ z d. d) (rw size-flat at w))
       (λ z d. let inside = patrol-none (many b) k (marks-of b) z .0 in
       let r = rw (read-at k inside) at (d .1) in (
@@ -129,7 +129,7 @@ module _ (b : Book) (long : EachLong 45 (b .held)) where
       )) in
       (v .0, (refl, v .1), v .2)
 
-  report-next : (a : Answer) (bank : List ℕ) → ReportDone (flat (b .held)) (marks-of b) a bank → Next report a [] (state bank (b .beside))
+  report-next : (a : Answer) (bank : List ℕ) → ReportDone (flat (b .held)) (marks-of b) a bank → Next report a [] (state bank (b .rest))
   unfolding Next
   report-next a bank w =
       let n = report-cause (size b) (marks-of b) in
@@ -144,24 +144,24 @@ module _ (b : Book) (long : EachLong 45 (b .held)) where
         landed b bank (w .kept) long,
       )
 
-  mark-next : (c : MarkCall) (a : Answer) (m : Marks) → MarkDone (marks-of b) c a m → Next (mark c) a [] (state (flat (b .held)) (beside-of m))
+  mark-next : (c : MarkCall) (a : Answer) (m : Marks) → MarkDone (marks-of b) c a m → Next (mark c) a [] (state (flat (b .held)) (rest-of m))
   unfolding MarkDone Next
   mark-next c a m w =
       let n = mark-cause (marks-of b) c in
-      let v = settled n a (state (flat (b .held)) (beside-of m)) _ (λ b′. (a ≡ done) × (b′ ≡ with-marks b (marked (marks-of b) c)))
-      (by-map n a _ _ _ _ (λ u. ap (λ (x : Marks). state (flat (b .held)) (beside-of x)) u) (λ z d. d) w)
+      let v = settled n a (state (flat (b .held)) (rest-of m)) _ (λ b′. (a ≡ done) × (b′ ≡ with-marks b (marked (marks-of b) c)))
+      (by-map n a _ _ _ _ (λ u. ap (λ (x : Marks). state (flat (b .held)) (rest-of x)) u) (λ z d. d) w)
       (λ z d. (
         with-marks b (marked (marks-of b) c),
         (d .0, refl),
         record {
-          state = ap (λ (x : Marks). state (flat (b .held)) (beside-of x)) (d .1);
+          state = ap (λ (x : Marks). state (flat (b .held)) (rest-of x)) (d .1);
           long = long;
         },
       )) in
       (v .0, (refl, v .1), v .2)
 
   -- byte j of block k is set
-  hit-next : (i x : ℕ) → i < size b → Landed (with-held b (i / 45) (set (held-at b (i / 45)) (i % 45) x)) (state (set (flat (b .held)) i x) (b .beside))
+  hit-next : (i x : ℕ) → i < size b → Landed (with-held b (i / 45) (set (held-at b (i / 45)) (i % 45) x)) (state (set (flat (b .held)) i x) (b .rest))
   hit-next i x h =
       let k = i / 45 in
       let inside : i / 45 < many b = omega arith in
@@ -200,4 +200,4 @@ whole-from b long σ i (e ∷ es) (s ∷ ss) (Ran.then c r) =
 
 pub whole : WholeList
 whole n lo hi es ss r = whole-from (fresh-book n) (each-replicate 45 n zeros refl) (fresh-state n)
-    (ap (λ (l : List ℕ). state l (beside-of fresh-marks)) (replicate-flat 45 n 0)) es ss r
+    (ap (λ (l : List ℕ). state l (rest-of fresh-marks)) (replicate-flat 45 n 0)) es ss r

@@ -1,10 +1,10 @@
 -- The book, and lists of calls and hits. Document 01, "The book"; demand 3, second sentence.
 --
 --   Call, Entry      a call's arguments; an entry of the list: a call, or a hit
---   Beside, State    what is kept from one entry to the next: the bank, and beside it the marks
+--   Rest, State      what is kept from one entry to the next: the bank, and the rest, which is the marks
 --   Seen             what is seen of an entry: answer, output, and the state after it
 --   CallDone, EntryDone, Ran   a call, an entry, a list of entries, done by the functions' contracts, each on what the entry before left
---   Book             for each block good and held, and the same beside them
+--   Book             for each block good and held, and the same rest
 --   CallSays, Step, Booked   what the book says of a call, of an entry, of a list of entries
 --   WholeList        all that is seen of any list is what the book says
 --   AnyList          every list that can be asked for can be run
@@ -18,11 +18,11 @@ use Rattle.marks.specs.Marks.{fresh-marks}
 use Rattle.marks.specs.Mark.{mark-cause, marked, MarkDone}
 use Rattle.marks.specs.declared.Marks.{Marks}
 use Rattle.marks.specs.declared.MarkCall.{MarkCall}
-use Rattle.code.specs.Block.{OneMember, Stored}
+use Rattle.code.specs.Block.{zeros, OneMember, Stored}
 use Rattle.code.specs.Labels.{built-in}
 use Rattle.reading.specs.Reading.{ReadsUnder}
 use Rattle.bank.specs.Calls.{clear-cause, put-cause, get-cause, patrol-cause, report-cause}
-use Rattle.bank.specs.Calls.{ClearDone, PutDone, GetDone, PatrolDone, ReportDone, EachReads, totals}
+use Rattle.bank.specs.Calls.{ClearDone, PutDone, GetDone, PatrolDone, ReportDone, CountsEach}
 
 -- ---- the list
 pub data Call : Type 0 where
@@ -39,12 +39,12 @@ pub data Entry : Type 0 where
   hit : (i x : ℕ) → Entry
 
 -- ---- what is kept, and what is seen
-pub record Beside : Type 0 where
+pub record Rest : Type 0 where
   pub marks : Marks
 
 pub record State : Type 0 where
   pub bank : List ℕ
-  pub beside : Beside
+  pub rest : Rest
 
 -- a hit is no call, and nothing is said
 pub data Said : Type 0 where
@@ -56,38 +56,38 @@ pub record Seen : Type 0 where
   pub output : List ℕ
   pub after : State
 
-abbrev pub state : List ℕ → Beside → State
-state bank w = record { bank = bank; beside = w }
+abbrev pub state : List ℕ → Rest → State
+state bank w = record { bank = bank; rest = w }
 
 abbrev pub seen : Said → List ℕ → State → Seen
 seen said out σ = record { said = said; output = out; after = σ }
 
-abbrev pub beside-of : Marks → Beside
-beside-of m = record { marks = m }
+abbrev pub rest-of : Marks → Rest
+rest-of m = record { marks = m }
 
 -- n blocks, just cleared, and a fresh mark record
 abbrev pub fresh-state : ℕ → State
-fresh-state n = state (replicate (45 * n) 0) (beside-of fresh-marks)
+fresh-state n = state (replicate (45 * n) 0) (rest-of fresh-marks)
 
 -- ---- the calls: each does what the function's contract says, and leaves alone what the function is not handed
 abbrev pub CallDone : State → Call → Seen → Type 0
-CallDone σ clear s = (a : Answer) × (bank′ : List ℕ) × ClearDone (σ .bank) a bank′ × (s ≡ seen (says a) [] (state bank′ (σ .beside)))
+CallDone σ clear s = (a : Answer) × (bank′ : List ℕ) × ClearDone (σ .bank) a bank′ × (s ≡ seen (says a) [] (state bank′ (σ .rest)))
 CallDone σ (put k rec) s =
-    (a : Answer) × (bank′ : List ℕ) × (rec′ : List ℕ) × PutDone (σ .bank) k rec a bank′ rec′ × (s ≡ seen (says a) [] (state bank′ (σ .beside)))
+    (a : Answer) × (bank′ : List ℕ) × (rec′ : List ℕ) × PutDone (σ .bank) k rec a bank′ rec′ × (s ≡ seen (says a) [] (state bank′ (σ .rest)))
 CallDone σ (get k out) s =
-    (a : Answer) × (bank′ : List ℕ) × (out′ : List ℕ) × GetDone (σ .bank) k (σ .beside .marks) out a bank′ out′
-    × (s ≡ seen (says a) out′ (state bank′ (σ .beside)))
+    (a : Answer) × (bank′ : List ℕ) × (out′ : List ℕ) × GetDone (σ .bank) k (σ .rest .marks) out a bank′ out′
+    × (s ≡ seen (says a) out′ (state bank′ (σ .rest)))
 CallDone σ (patrol k) s =
-    (a : Answer) × (bank′ : List ℕ) × PatrolDone (σ .bank) k (σ .beside .marks) a bank′ × (s ≡ seen (says a) [] (state bank′ (σ .beside)))
+    (a : Answer) × (bank′ : List ℕ) × PatrolDone (σ .bank) k (σ .rest .marks) a bank′ × (s ≡ seen (says a) [] (state bank′ (σ .rest)))
 CallDone σ report s =
-    (a : Answer) × (bank′ : List ℕ) × ReportDone (σ .bank) (σ .beside .marks) a bank′ × (s ≡ seen (says a) [] (state bank′ (σ .beside)))
+    (a : Answer) × (bank′ : List ℕ) × ReportDone (σ .bank) (σ .rest .marks) a bank′ × (s ≡ seen (says a) [] (state bank′ (σ .rest)))
 CallDone σ (mark c) s =
-    (a : Answer) × (m′ : Marks) × MarkDone (σ .beside .marks) c a m′ × (s ≡ seen (says a) [] (state (σ .bank) (beside-of m′)))
+    (a : Answer) × (m′ : Marks) × MarkDone (σ .rest .marks) c a m′ × (s ≡ seen (says a) [] (state (σ .bank) (rest-of m′)))
 
 -- "A hit sets any one byte of the bank to any value"
 abbrev pub EntryDone : State → Entry → Seen → Type 0
 EntryDone σ (call c) s = CallDone σ c s
-EntryDone σ (hit i x) s = (i < length (σ .bank)) × (x < 256) × (s ≡ seen nothing-said [] (state (set (σ .bank) i x) (σ .beside)))
+EntryDone σ (hit i x) s = (i < length (σ .bank)) × (x < 256) × (s ≡ seen nothing-said [] (state (set (σ .bank) i x) (σ .rest)))
 
 pub data Ran : State → List Entry → List Seen → Type 0 where
   end : {σ : State} → Ran σ [] []
@@ -97,17 +97,14 @@ pub data Ran : State → List Entry → List Seen → Type 0 where
 pub record Book : Type 0 where
   pub good : List (List ℕ)
   pub held : List (List ℕ)
-  pub beside : Beside
-
-abbrev pub zeros : List ℕ
-zeros = replicate 45 0
+  pub rest : Rest
 
 -- n blocks of zeros
-abbrev pub zero-book : ℕ → Beside → Book
-zero-book n w = record { good = replicate n zeros; held = replicate n zeros; beside = w }
+abbrev pub zero-book : ℕ → Rest → Book
+zero-book n w = record { good = replicate n zeros; held = replicate n zeros; rest = w }
 
 abbrev pub fresh-book : ℕ → Book
-fresh-book n = zero-book n (beside-of fresh-marks)
+fresh-book n = zero-book n (rest-of fresh-marks)
 
 -- the blocks one after the other
 abbrev pub flat : List (List ℕ) → List ℕ
@@ -116,7 +113,7 @@ flat (b ∷ bs) = b ++ flat bs
 
 -- "The bank after each entry is the held blocks; the mark record is the marks in force."
 abbrev pub state-of : Book → State
-state-of b = state (flat (b .held)) (b .beside)
+state-of b = state (flat (b .held)) (b .rest)
 
 -- how many blocks; the bytes of its bank; its marks; block k as held
 abbrev pub many : Book → ℕ
@@ -126,25 +123,25 @@ abbrev pub size : Book → ℕ
 size b = 45 * many b
 
 abbrev pub marks-of : Book → Marks
-marks-of b = b .beside .marks
+marks-of b = b .rest .marks
 
 abbrev pub held-at : Book → ℕ → List ℕ
 held-at b k = getD (b .held) k []
 
 abbrev pub with-marks : Book → Marks → Book
-with-marks b m = record { good = b .good; held = b .held; beside = beside-of m }
+with-marks b m = record { good = b .good; held = b .held; rest = rest-of m }
 
 abbrev pub with-held : Book → ℕ → List ℕ → Book
-with-held b k x = record { good = b .good; held = set (b .held) k x; beside = b .beside }
+with-held b k x = record { good = b .good; held = set (b .held) k x; rest = b .rest }
 
 abbrev pub with-both : Book → ℕ → List ℕ → Book
-with-both b k x = record { good = set (b .good) k x; held = set (b .held) k x; beside = b .beside }
+with-both b k x = record { good = set (b .good) k x; held = set (b .held) k x; rest = b .rest }
 
 -- what the book says of a call: the answer, the output, and the book after it
 -- "Refused call: the lowest number of its causes, nothing changes."
 abbrev pub CallSays : Book → Call → Answer → List ℕ → Book → Type 0
 -- "every good and held block becomes zeros"
-CallSays b clear a out b′ = (out ≡ []) × By (clear-cause (size b)) a (b′ ≡ b) ((a ≡ done) × (b′ ≡ zero-book (many b) (b .beside)))
+CallSays b clear a out b′ = (out ≡ []) × By (clear-cause (size b)) a (b′ ≡ b) ((a ≡ done) × (b′ ≡ zero-book (many b) (b .rest)))
 -- "that good and held block become the lawful block that begins with the record"
 CallSays b (put k rec) a out b′ =
     (out ≡ []) × By (put-cause (size b) k (length rec)) a (b′ ≡ b) ((a ≡ done) × ((x : List ℕ) × OneMember (Stored built-in rec) x × (b′ ≡ with-both b k x)))
@@ -159,7 +156,7 @@ CallSays b (patrol k) a out b′ =
 -- "how many held blocks read as clean, chips, card, none and several"
 CallSays b report a out b′ =
     (out ≡ []) × (b′ ≡ b)
-    × By (report-cause (size b) (marks-of b)) a (Unit {0}) ((f : ℕ → Answer) × EachReads (held-at b) (many b) (marks-of b) f × (a ≡ totals f (many b)))
+    × By (report-cause (size b) (marks-of b)) a (Unit {0}) (CountsEach (held-at b) (many b) (marks-of b) a)
 -- "Placing adds the mark, a chip after those there. Lifting takes it out."
 CallSays b (mark c) a out b′ =
     (out ≡ []) × By (mark-cause (marks-of b) c) a (b′ ≡ b) ((a ≡ done) × (b′ ≡ with-marks b (marked (marks-of b) c)))

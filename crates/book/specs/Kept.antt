@@ -5,7 +5,8 @@
 --   GivesRecord      the record, or "several", and when not "several"
 --   GetsLastPut      the statement, of the book. It has no clause on patrols: damage that is allowed at the get is enough
 --   CallsGiveLastPut the statement, of every list of calls and every book that the list gives
-use Prim.Native.Nat.{ℕ, _*_, _≤_}
+--   OneHit           lists of which it says so
+use Prim.Native.Nat.{ℕ, _+_, _*_, _≤_, _<_}
 use mathlib.Core.Path.{_≡_}
 use mathlib.Core.Bool.{_&&_}
 use mathlib.Core.Logic.{_⊎_}
@@ -61,3 +62,10 @@ abbrev pub CallsGiveLastPut : Type 0
 CallsGiveLastPut = (n : ℕ) → 1 ≤ n → n ≤ 1024 → (es : List Entry) (ss : List Seen) (k : ℕ) (out : List ℕ) (s : Seen)
     → Ran (fresh-state n) (es ++ (call (get k out) ∷ [])) (ss ++ (s ∷ [])) → (b : Book) → Booked (fresh-book n) es ss b
     → get-cause (45 * n) k (marks-of b) (length out) ≡ 0 → DamageAllowed b k → GivesRecord b k (last-put n k (replicate 34 0) es) s
+
+-- ---- the sentence is about something: a record put, any one byte of its block hit, and a get, with nothing marked
+-- the get is not refused, the damage is allowed and of the chip kind, and so the record comes back
+abbrev pub OneHit : Type 0
+OneHit = (n k : ℕ) → n ≤ 1024 → k < n → (rec out : List ℕ) → length rec ≡ 34 → length out ≡ 45 → (i x : ℕ) → i < 45
+    → (s t u : Seen) → Ran (fresh-state n) (call (put k rec) ∷ hit (45 * k + i) x ∷ call (get k out) ∷ []) (s ∷ t ∷ u ∷ [])
+    → (a : Answer) × (u .said ≡ says a) × (number a ≡ 0) × (take 34 (u .output) ≡ rec)

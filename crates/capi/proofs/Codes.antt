@@ -1,7 +1,9 @@
 -- Every answer comes back from its code, so that two answers of a call with one code are the same; and every code fits its width.
 --
+--   layout                 codes in figures
 --   split, split-totals    the header's functions give back the parts that a code was packed of; ..-small: whatever the code, within their types
 --   numbered               numbers that stand for a refusal with nothing more
+--   chips-coded, card-coded                   what the parts of the code of "chips" and of "card" are
 --   outcome-back, reading-back, report-back   the answer told by the parts of a code is the answer it is the code of
 --   outcome-one, reading-one, report-one      two answers of such a call with one code are the same
 --   outcome-fits, reading-fits, report-fits   32 bits, and 63 for a report
@@ -20,6 +22,11 @@ use Rattle.capi.specs.Codes.{packed, packed-totals, code, number-in, kin
 use Rattle.capi.specs.Codes.{by-number, corrected-as, refused-as, outcome-in, reading-in, report-in}
 use Rattle.capi.proofs.Gives.{Outcomes, was-done, was-refused, Readings, was-clean, was-in-chips, was-in-card, was-several, not-read}
 use Rattle.capi.proofs.Gives.{Reports, were-counted, not-counted}
+
+-- in figures: the header's layout, each part at its bits
+pub layout : (code (in-chips 9) ≡ 0x09000100) × (code (in-card 4 9) ≡ 0x09040200) × (code (refused 10) ≡ 0x0000000A) × (code (refused-card 11 3) ≡ 0x0003000B)
+    × (code (counted 1 2 3 4 5) ≡ 0x00500800C0100100)
+layout = (refl, refl, refl, refl, refl)
 
 pub split : (number kind card n : ℕ) → number < 256 → kind < 256 → card < 256 → n < 256
     → (number-in (packed number kind card n) ≡ number) × (kind-in (packed number kind card n) ≡ kind)
@@ -66,14 +73,22 @@ module _ (ns : List ℕ) (some : numbered ns ≡ true) where
   outcome-back done was-done = refl
   outcome-back (refused n) (was-refused i) = let r = number-back n i in simp (r .0, r .1)
 
+  -- "chips n" is of kind 1, and a card's answer of kind 2
+  chips-coded : (n : ℕ) → n < 256 → (number-in (code (in-chips n)) ≡ 0) × (kind-in (code (in-chips n)) ≡ 1) × (n-in (code (in-chips n)) ≡ n)
+  chips-coded n h = (omega arith, omega arith, omega arith)
+
+  card-coded : (j n : ℕ) → j < 256 → n < 256
+      → (number-in (code (in-card j n)) ≡ 0) × (kind-in (code (in-card j n)) ≡ 2) × (card-in (code (in-card j n)) ≡ j) × (n-in (code (in-card j n)) ≡ n)
+  card-coded j n h i = (omega arith, omega arith, omega arith, omega arith)
+
   pub reading-back : (a : Answer) → Readings ns a → reading-in (code a) ≡ a
   unfolding reading-in by-number corrected-as refused-as
   reading-back clean was-clean = refl
   reading-back (in-chips n) (was-in-chips h) =
-      let s = split 0 1 0 n (omega arith) (omega arith) (omega arith) (omega (arith, h)) in
-      simp (s .0, s .1, s .3)
+      let s = chips-coded n (omega (arith, h)) in
+      simp (s .0, s .1, s .2)
   reading-back (in-card j n) (was-in-card h i) =
-      let s = split 0 2 j n (omega arith) (omega arith) (omega (arith, h)) (omega (arith, i)) in
+      let s = card-coded j n (omega (arith, h)) (omega (arith, i)) in
       simp (s .0, s .1, s .2, s .3)
   reading-back (refused-card n j) (was-several e h) =
       let s = split n 0 j 0 (omega (arith, e)) (omega arith) (omega (arith, h)) (omega arith) in

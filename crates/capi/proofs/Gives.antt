@@ -26,7 +26,7 @@ use Rattle.marks.specs.declared.MarkCall.the-variants.{PlaceChip, LiftChip, Pla
 use Rattle.marks.proofs.Laws.{cause-lawful}
 use Rattle.code.specs.Block.{byte, changes}
 use Rattle.reading.specs.Reading.{OnCard, ReadsUnder}
-use Rattle.reading.proofs.Marked.{append-in}
+use Rattle.base.proofs.Lists.{append-in}
 use Rattle.store.specs.Store.{store-cause, StoreDone}
 use Rattle.block.specs.Read.{read-cause, ReadDone}
 use Rattle.bank.specs.Calls.{blocks, block, bad-bank, size-causes, place-causes, clear-cause, put-cause, get-cause, patrol-cause, report-cause}

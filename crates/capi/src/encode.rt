@@ -18,7 +18,7 @@ fn packed(number: u8, kind: u8, card: u8, n: u8) -> u32
     low + 65536 * high
 }
 
-pub fn of_outcome(r: Outcome) -> u32
+pub(crate) fn of_outcome(r: Outcome) -> u32
     ensures { λ c. ⌜ c ≡ code (outcome-answer r) ⌝ }
 {
     match r {
@@ -37,7 +37,7 @@ fn of_kind(kind: Kind) -> u32
     }
 }
 
-pub fn of_reading(r: Reading) -> u32
+pub(crate) fn of_reading(r: Reading) -> u32
     ensures { λ c. ⌜ c ≡ code (reading-answer r) ⌝ }
 {
     match r {
@@ -48,7 +48,7 @@ pub fn of_reading(r: Reading) -> u32
 }
 
 // Five totals of 11 bits each.
-pub fn of_totals(t: Totals) -> u64
+pub(crate) fn of_totals(t: Totals) -> u64
     requires { ⌜ (t .clean ≤ 1024) × (t .chips ≤ 1024) × (t .card ≤ 1024) × (t .none ≤ 1024) × (t .several ≤ 1024) ⌝ }
     ensures { λ c. ⌜ c ≡ packed-totals (t .clean) (t .chips) (t .card) (t .none) (t .several) ⌝ }
 {

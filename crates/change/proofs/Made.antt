@@ -22,7 +22,7 @@ use Rattle.field.proofs.Xor.{add-assoc, add-self, add-zero, zero-add, sums}
 use Rattle.code.specs.Block.{byte, block-of}
 use Rattle.code.proofs.Blocks.{same-block, block-of-at, block-of-length}
 use Rattle.base.specs.Base.{if}
-use Rattle.change.specs.Change.{adds, applied, no-change, Added, Filled}
+use Rattle.change.specs.Change.{adds, applied, no-change, Added, RowsAdded}
 use Rattle.change.specs.declared.Change.{Change}
 
 -- ---- at one position
@@ -94,7 +94,7 @@ rows-more b j z n x block block′ h e a w = record {
       ∙ ap (λ (y : ℕ). byte b r ⊕ y) (step j z n x r h e);
 }
 
-pub rows-end : (b : List ℕ) (j : ℕ) (z : List ℕ) (n : ℕ) (block : List ℕ) → length b ≡ 45 → 9 ≤ n → Rows b j z n block → Filled j z b block
+pub rows-end : (b : List ℕ) (j : ℕ) (z : List ℕ) (n : ℕ) (block : List ℕ) → length b ≡ 45 → 9 ≤ n → Rows b j z n block → RowsAdded j z b block
 rows-end b j z n block l h w = (
   w .long ∙ sym l,
   λ r lr. w .changed r (subst (λ (i : ℕ). r < i) l lr)
@@ -102,7 +102,7 @@ rows-end b j z n block l h w = (
       ∙ ap (λ (t : Bool). byte b r ⊕ if t (row z r) 0) (and-true (eqb (r / 9) j)),
 )
 
-pub no-card : (b : List ℕ) (j : ℕ) (z : List ℕ) → length b ≡ 45 → 4 < j → Filled j z b b
+pub no-card : (b : List ℕ) (j : ℕ) (z : List ℕ) → length b ≡ 45 → 4 < j → RowsAdded j z b b
 no-card b j z l h = (refl, λ r lr. rw (ne-eqb (r / 9) j (λ e. omega (arith, l, lr, h, e))) (sym (add-zero (byte b r))))
 
 -- ---- the whole change
@@ -120,7 +120,7 @@ module _ (b : List ℕ) (d : Change) (l : length b ≡ 45) where
   pub applied-at : (r : ℕ) → r < 45 → byte (applied b d) r ≡ byte b r ⊕ adds d r
   applied-at r h = ap (λ (x : List ℕ). byte x r) applied-is ∙ block-of-at (λ r. byte b r ⊕ adds d r) r h
 
-  pub applied-end : (b₁ b₂ b₃ : List ℕ) → Filled (d .card) (d .rows) b b₁ → Added (d .p) (d .e) b₁ b₂ → Added (d .q) (d .f) b₂ b₃ → b₃ ≡ applied b d
+  pub applied-end : (b₁ b₂ b₃ : List ℕ) → RowsAdded (d .card) (d .rows) b b₁ → Added (d .p) (d .e) b₁ b₂ → Added (d .q) (d .f) b₂ b₃ → b₃ ≡ applied b d
   applied-end b₁ b₂ b₃ w a c = same-block b₃ (applied b d) (c .0 ∙ a .0 ∙ long) applied-long (λ r h. at r h ∙ sym (applied-at r h))
     where
       long : length b₁ ≡ 45

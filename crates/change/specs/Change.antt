@@ -3,10 +3,10 @@
 --   adds d r      what the change d adds at position r
 --   applied b d   the block b with d made in it; bytes that are no block stay as they are
 --   no-change     the change that adds nothing
---   places d      how many of its eleven places add something
+--   weight d      how many of its eleven places add something
 --   WellFormed    its card is a card, and its further positions are two different ones off that card
 --   Counted       n is the number of bytes that d changes
---   Added, Filled the steps in which a change is made: x added at one position, nine rows to card j
+--   Added         a step in which a change is made: x added at one position; RowsAdded: nine rows added to card j
 use mathlib.Core.Path.{_≡_}
 use mathlib.Core.Bool.{Bool, not}
 use mathlib.Core.Logic.{_⊎_, _≢_}
@@ -36,8 +36,8 @@ nonzero v = not (eqb v 0)
 abbrev pub nonzero-at : List ℕ → ℕ → Bool
 nonzero-at z i = nonzero (getD z i 0)
 
-unfoldable pub places : Change → ℕ
-places d = tally 9 (nonzero-at (d .rows)) + (bit (nonzero (d .e)) + bit (nonzero (d .f)))
+unfoldable pub weight : Change → ℕ
+weight d = tally 9 (nonzero-at (d .rows)) + (bit (nonzero (d .e)) + bit (nonzero (d .f)))
 
 pub record WellFormed (d : Change) : Type 0 where
   pub card : d .card < 5
@@ -45,12 +45,12 @@ pub record WellFormed (d : Change) : Type 0 where
   pub second : (d .f ≡ 0) ⊎ ((d .q < 45) × (d .q / 9 ≢ d .card) × (d .q ≢ d .p))
 
 pub record Counted (d : Change) (n : ℕ) : Type 0 where
-  pub places : n ≡ places d
+  pub weight : n ≡ weight d
   pub changes : WellFormed d → (b : List ℕ) → length b ≡ 45 → n ≡ changes b (applied b d)
 
 -- ---- the steps in which it is made
 abbrev pub Added : ℕ → ℕ → List ℕ → List ℕ → Type 0
 Added at x b b′ = (length b′ ≡ length b) × ((r : ℕ) → r < length b → byte b′ r ≡ byte b r ⊕ if (eqb r at) x 0)
 
-abbrev pub Filled : ℕ → List ℕ → List ℕ → List ℕ → Type 0
-Filled j z b b′ = (length b′ ≡ length b) × ((r : ℕ) → r < length b → byte b′ r ≡ byte b r ⊕ if (eqb (r / 9) j) (getD z (r % 9) 0) 0)
+abbrev pub RowsAdded : ℕ → List ℕ → List ℕ → List ℕ → Type 0
+RowsAdded j z b b′ = (length b′ ≡ length b) × ((r : ℕ) → r < length b → byte b′ r ≡ byte b r ⊕ if (eqb (r / 9) j) (getD z (r % 9) 0) 0)

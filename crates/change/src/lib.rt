@@ -5,7 +5,7 @@ ghost use mathlib.Core.Path.{_≡_};
 ghost use Prim.Native.Nat.{_<_};
 ghost use lib.ListN.{length};
 ghost use Rattle.base.specs.Base.{bit, tally};
-ghost use Rattle.change.specs.Change.{applied, no-change, nonzero, nonzero-at, Counted, Added, Filled};
+ghost use Rattle.change.specs.Change.{applied, no-change, nonzero, nonzero-at, Counted, Added, RowsAdded};
 
 // What is added: to a card its nine rows, e at position p and f at position q.
 pub struct Change {
@@ -78,7 +78,7 @@ fn add_at(block: &mut [u8], at: usize, x: u8)
 // Adds the rows to card j, if there is one.
 fn add_rows(block: &mut [u8], j: u8, rows: [u8; 9])
     requires { ⌜ length (now block) ≡ 45 ⌝ }
-    ensures { λ _. ⌜ Filled j rows (now (block .entry)) (now (block .exit)) ⌝ }
+    ensures { λ _. ⌜ RowsAdded j rows (now (block .entry)) (now (block .exit)) ⌝ }
 {
     if 4 < j {
         return;

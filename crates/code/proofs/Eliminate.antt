@@ -21,7 +21,7 @@ use native.Mathlib.Nat.{lt-suc-self, lt-trans}
 use native.Mathlib.Omega.{arith}
 use lib.Dec.{T, eqb, eqb→eq}
 use borrow.Author.Tests.{eq-eqb, ne-eqb}
-use Rattle.base.specs.Base.{if, In}
+use Rattle.base.specs.Base.{if, In, Few}
 use Rattle.base.proofs.Tests.{every, every-at, every-of}
 use Rattle.field.specs.Field.{_⊕_}
 use Rattle.field.proofs.Xor.{add-self, zero-add, add-lt, sums}
@@ -31,7 +31,6 @@ use Rattle.field.proofs.IsField.{IsField}
 use Rattle.field.proofs.Ring.{ring, mul-zero, zero-mul}
 use Rattle.field.proofs.Squares.{squared, squared-add, squared-mul, squared-zero}
 use Rattle.field.proofs.Quotient.{quot, times-quot, quot-only}
-use Rattle.code.specs.Reach.{Few}
 
 -- ---- over the product alone
 module _ (_·_ : ℕ → ℕ → ℕ) where

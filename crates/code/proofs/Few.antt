@@ -1,8 +1,7 @@
 -- Lists of chips, and changes within a set of positions.
 --
 --   member           a position is in a list or not
---   few-in           chips are positions; few-once: none stands twice; few-length: there are at most n; few-more: a larger n
---   few-one, few-two one chip, and two that differ
+--   few-once         of few chips none stands twice
 --   few-of           of any list the positions, each once (Positions)
 --   beside-one, beside-two    one chip off card j, and two that differ; off-in, beside-in: what holds of each
 --   in-keep, keep-in what is kept; keep-few, keep-off, keep-beside: it is few, and off card j
@@ -19,12 +18,13 @@ use native.Mathlib.Omega.{arith}
 use lib.Dec.{eqb}
 use lib.ListN.{length}
 use borrow.Author.Tests.{eqb-true, eqb-false}
-use Rattle.base.specs.Base.{if, In, is-in}
+use Rattle.base.specs.Base.{if, In, is-in, Few}
 use Rattle.base.proofs.Lists.{in-is-in, is-in-in}
+use Rattle.base.proofs.Few.{few-in, few-more, few-one, few-two}
 use Rattle.base.proofs.Tally.{clash}
 use Rattle.field.proofs.Sum.{Once}
 use Rattle.code.specs.Block.{byte, DifferOnly}
-use Rattle.code.specs.Reach.{rules, Few, Off, Beside, keep}
+use Rattle.code.specs.Reach.{rules, Off, Beside, keep}
 
 pub member : (p : ℕ) (l : List ℕ) → In p l ⊎ (In p l → ⊥)
 member p l = go (is-in p l) refl
@@ -34,37 +34,10 @@ member p l = go (is-in p l) refl
     go false e = inr (λ i. clash (is-in p l) (in-is-in p l i) e)
 
 -- ---- few chips
-pub few-in : (n : ℕ) (ps : List ℕ) → Few n ps → (p : ℕ) → In p ps → p < 45
-few-in n [] few p i = absurd i
-few-in zero (q ∷ ps) few p i = absurd few
-few-in (suc n) (q ∷ ps) few p (inl e) = subst (λ (z : ℕ). z < 45) (sym e) (few .0)
-few-in (suc n) (q ∷ ps) few p (inr i) = few-in n ps (few .2) p i
-
 pub few-once : (n : ℕ) (ps : List ℕ) → Few n ps → Once ps
 few-once n [] few = tt
 few-once zero (q ∷ ps) few = absurd few
 few-once (suc n) (q ∷ ps) few = (few .1, few-once n ps (few .2))
-
-pub few-length : (n : ℕ) (ps : List ℕ) → Few n ps → length ps ≤ n
-few-length n [] few = omega arith
-few-length zero (q ∷ ps) few = absurd few
-few-length (suc n) (q ∷ ps) few = omega (arith, few-length n ps (few .2))
-
-pub few-more : (n m : ℕ) (ps : List ℕ) → n ≤ m → Few n ps → Few m ps
-few-more n m [] h few = tt
-few-more zero m (q ∷ ps) h few = absurd few
-few-more (suc n) zero (q ∷ ps) h few = absurd (omega arith)
-few-more (suc n) (suc m) (q ∷ ps) h few = (few .0, few .1, few-more n m ps (omega arith) (few .2))
-
-pub few-one : (p : ℕ) → p < 45 → Few rules (p ∷ [])
-few-one p l = (l, (λ i. i), tt)
-
-pub few-two : (p q : ℕ) → p < 45 → q < 45 → p ≢ q → Few rules (p ∷ q ∷ [])
-few-two p q hp hq ne = (hp, other, few-one q hq)
-  where
-    other : (p ≡ q) ⊎ ⊥ → ⊥
-    other (inl e) = ne e
-    other (inr z) = z
 
 -- the positions of l, each once
 abbrev pub Positions : List ℕ → Type 0

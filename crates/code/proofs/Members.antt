@@ -19,7 +19,7 @@ use Rattle.field.proofs.Ring.{mul-zero}
 use Rattle.field.proofs.Gf256.{field}
 use Rattle.code.specs.Block.{byte, position, Stored, listed, block-of, OneMember, NoMember, TwoMembers}
 use Rattle.code.specs.Labels.{LabelSet}
-use Rattle.code.proofs.Few.{few-two}
+use Rattle.base.proofs.Few.{few-two}
 use Rattle.code.proofs.Blocks.{block-of-at, block-of-is-block}
 use Rattle.code.proofs.Unique.{alike}
 

@@ -13,7 +13,7 @@ use mathlib.Core.List.{List, [], _∷_}
 use Prim.Native.Nat.{ℕ, _/_, _%_, _^_, _<_}
 use native.Mathlib.Omega.{arith}
 use lib.Dec.{T, eqb}
-use Rattle.base.specs.Base.{if, In}
+use Rattle.base.specs.Base.{if, In, Few}
 use Rattle.base.proofs.Tests.{same}
 use Rattle.field.specs.Field.{_⊕_, _·_}
 use Rattle.field.proofs.Xor.{add-zero, add-lt, eq-of-sum}
@@ -22,7 +22,7 @@ use Rattle.field.proofs.Sum.{sum-below}
 use Rattle.field.proofs.Gf256.{field, inverse-of}
 use Rattle.code.specs.Block.{byte, position, Block, block-of}
 use Rattle.code.specs.Labels.{entry, LabelSet}
-use Rattle.code.specs.Reach.{rules, Few, Beside, keep, Reached}
+use Rattle.code.specs.Reach.{rules, Beside, keep, Reached}
 use Rattle.code.proofs.Few.{member, keep-beside, kept, all-kept, widen}
 use Rattle.code.proofs.Eliminate as eliminate
 use Rattle.code.proofs.Eliminate.{Free, Solves, values-off, values-below, only}

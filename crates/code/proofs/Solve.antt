@@ -12,7 +12,8 @@ use mathlib.Core.Bool.{Bool, true, false}
 use mathlib.Core.List.{List}
 use Prim.Native.Nat.{ℕ, _/_, _<_, _^_}
 use lib.Dec.{T}
-use Rattle.base.specs.Base.{if, In, is-in}
+use Rattle.base.proofs.Few.{few-in}
+use Rattle.base.specs.Base.{if, In, is-in, Few}
 use Rattle.base.proofs.Lists.{in-is-in, is-in-in}
 use Rattle.base.proofs.Tally.{clash}
 use Rattle.field.specs.Field.{_⊕_}
@@ -23,8 +24,7 @@ use Rattle.field.proofs.IsField.{IsField}
 use Rattle.field.proofs.Squares.{squared}
 use Rattle.code.specs.Block.{byte}
 use Rattle.code.specs.Labels.{entry}
-use Rattle.code.specs.Reach.{Few}
-use Rattle.code.proofs.Few.{member, few-in, few-once}
+use Rattle.code.proofs.Few.{member, few-once}
 use Rattle.code.proofs.Eliminate.{dot, fits, values, values-off, Free, Below, solved, only}
 use Rattle.code.proofs.Card.{entry-below, red, Law, fill, fill-only, law-red, red-off, red-add, red-over, fill-law}
 

@@ -14,14 +14,15 @@ use native.Mathlib.Omega.{arith}
 use lib.Dec.{eqb}
 use lib.ListN.{length}
 use borrow.Author.Tests.{eqb-true}
-use Rattle.base.specs.Base.{In, tally}
+use Rattle.base.proofs.Few.{few-more}
+use Rattle.base.specs.Base.{In, tally, Few}
 use Rattle.base.proofs.Tests.{below-suc}
 use Rattle.field.specs.Field.{_·_}
 use Rattle.field.proofs.Gf256.{field}
 use Rattle.code.specs.Block.{byte, Block, Lawful, DifferOnly, changes}
 use Rattle.code.specs.Labels.{entry, LabelSet}
-use Rattle.code.specs.Reach.{rules, Few, Beside, keep}
-use Rattle.code.proofs.Few.{Positions, few-of, few-more, keep-few, keep-beside, kept, widen}
+use Rattle.code.specs.Reach.{rules, Beside, keep}
+use Rattle.code.proofs.Few.{Positions, few-of, keep-few, keep-beside, kept, widen}
 use Rattle.code.proofs.Eliminate.{dot, independent}
 use Rattle.code.proofs.Solve.{law-alike}
 use Rattle.code.proofs.Blocks.{same-block, all-below, label-below, to-law}
@@ -43,19 +44,19 @@ module _ (ls : List ℕ) (ok : LabelSet ls) where
       (widen (λ p. (p / 9 ≡ j) ⊎ In p ps) (λ p. (p / 9 ≡ j) ⊎ In p (keep j ps)) x y (kept j ps) only))
 
 -- ---- the distance
--- the places that differ, in a list as long as there are such places
-record Places (n : ℕ) (x y : List ℕ) : Type 0 where
+-- the positions that differ, in a list as long as there are such positions
+record Differing (n : ℕ) (x y : List ℕ) : Type 0 where
   list : List ℕ
   count : length list ≡ tally n (λ p. not (eqb (byte x p) (byte y p)))
   within : (p : ℕ) → In p list → p < n
   cover : (p : ℕ) → p < n → (byte x p ≡ byte y p) ⊎ In p list
 
-places : (n : ℕ) (x y : List ℕ) → Places n x y
+differing : (n : ℕ) (x y : List ℕ) → Differing n x y
 unfolding tally
-places zero x y = record { list = []; count = refl; within = λ p i. absurd i; cover = λ p l. absurd (not-suc-le-zero l) }
-places (suc n) x y = go (eqb (byte x n) (byte y n)) refl (places n x y)
+differing zero x y = record { list = []; count = refl; within = λ p i. absurd i; cover = λ p l. absurd (not-suc-le-zero l) }
+differing (suc n) x y = go (eqb (byte x n) (byte y n)) refl (differing n x y)
   where
-    go : (t : Bool) → eqb (byte x n) (byte y n) ≡ t → Places n x y → Places (suc n) x y
+    go : (t : Bool) → eqb (byte x n) (byte y n) ≡ t → Differing n x y → Differing (suc n) x y
     go true e w = record {
       list = w .list;
       count = w .count ∙ rw e (omega arith);
@@ -78,7 +79,7 @@ places (suc n) x y = go (eqb (byte x n) (byte y n)) refl (places n x y)
         later p (inr i) = inr (inr i)
 
 module _ (ls : List ℕ) (ok : LabelSet ls) (x y : List ℕ) (bx : Block x) (lx : Lawful ls x) (by : Block y) (ly : Lawful ls y) where
-  -- at most three places: the card of the first, and two further chips
+  -- at most three: the card of the first, and two further chips
   near : (l : List ℕ) → length l < 4 → ((p : ℕ) → In p l → p < 45) → DifferOnly (λ p. In p l) x y → x ≡ y
   near [] s h only = alike ls ok 0 (omega arith) [] tt x y bx lx by ly (widen (λ p. In p []) (λ p. (p / 9 ≡ 0) ⊎ In p []) x y (λ p l i. absurd i) only)
   near (q ∷ l) s h only = go (few-of l)
@@ -97,5 +98,5 @@ module _ (ls : List ℕ) (ok : LabelSet ls) (x y : List ℕ) (bx : Block x) (lx 
   four-apart ne = pick (decLt (changes x y) 4)
     where
       pick : Dec (changes x y < 4) → 4 ≤ changes x y
-      pick (yes l) = let w = places 45 x y in absurd (ne (near (w .list) (omega (arith, w .count)) (w .within) (w .cover)))
+      pick (yes l) = let w = differing 45 x y in absurd (ne (near (w .list) (omega (arith, w .count)) (w .within) (w .cover)))
       pick (no h) = omega arith

@@ -3,6 +3,7 @@
 --   byte x p          the byte at position p
 --   position j i      the position of card j, chip i; position p is chip p % 9 of card p / 9
 --   Block x           x is a block: 45 bytes
+--   zeros             the block of 45 zeros
 --   Lawful labels x   x meets the check rules (01's "lawful": a codeword)
 --   block-of f        the 45 bytes f 0, .., f 44
 --   DifferOnly P b x  b and x differ only at positions of P
@@ -15,7 +16,7 @@ use mathlib.Core.Logic.{_⊎_, _≢_}
 use mathlib.Core.List.{List, [], _∷_}
 use Prim.Native.Nat.{ℕ, zero, suc, _+_, _*_, _<_}
 use lib.Dec.{eqb}
-use lib.ListN.{length, getD, take}
+use lib.ListN.{length, getD, take, replicate}
 use Rattle.base.specs.Base.{tally}
 use Rattle.field.specs.Field.{_·_, sum}
 
@@ -28,6 +29,9 @@ position j i = 9 * j + i
 pub record Block (x : List ℕ) : Type 0 where
   pub long : length x ≡ 45
   pub bytes : (p : ℕ) → p < 45 → byte x p < 256
+
+abbrev pub zeros : List ℕ
+zeros = replicate 45 0
 
 -- for each chip its five bytes sum to 0; so do label times byte, and label squared times byte, over the 45 positions
 pub record Lawful (labels x : List ℕ) : Type 0 where

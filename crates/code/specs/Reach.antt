@@ -1,7 +1,6 @@
 -- The lawful blocks that a change of one card and of a few chips reaches.
 --
 --   rules                 how many label rules there are: so many chips can be found beside a card
---   Few n ps              at most n chips, each a position, none twice
 --   Off j ps              none of them on card j
 --   Beside j ps           so few that they can be found beside card j, and none on it
 --   keep j ps             those of ps that are not on card j
@@ -11,16 +10,11 @@ use mathlib.Core.Logic.{_⊎_, _≢_}
 use mathlib.Core.List.{List, [], _∷_}
 use Prim.Native.Nat.{ℕ, zero, suc, _/_, _<_}
 use lib.Dec.{eqb}
-use Rattle.base.specs.Base.{if, In}
+use Rattle.base.specs.Base.{if, In, Few}
 use Rattle.code.specs.Block.{Block, Lawful, DifferOnly}
 
 abbrev pub rules : ℕ
 rules = 2
-
-abbrev pub Few : ℕ → List ℕ → Type 0
-Few n [] = Unit {0}
-Few zero (p ∷ ps) = ⊥
-Few (suc n) (p ∷ ps) = (p < 45) × (In p ps → ⊥) × Few n ps
 
 abbrev pub Off : ℕ → List ℕ → Type 0
 Off j [] = Unit {0}

@@ -26,7 +26,7 @@ use Rattle.sums.specs.Words.{spread, gathered, at-point}
 use Rattle.sums.specs.Sums.{rows-of}
 use Rattle.sums.specs.declared.Sums.{Sums}
 use Rattle.sums.proofs.Syndrome.{reduced-sums}
-use Rattle.change.specs.Change.{applied, nonzero-at, places}
+use Rattle.change.specs.Change.{applied, nonzero-at, weight}
 use Rattle.change.specs.declared.Change.{Change}
 use Rattle.reading.specs.Allowed.{ChipKind}
 use Rattle.reading.specs.Reading.{Reads}
@@ -38,7 +38,6 @@ use Rattle.decode.specs.Search.{Known, SumsAt, Alone, stray, strays, chi
 use Rattle.decode.specs.Decode.{Answers}
 use Rattle.decode.proofs.Describe.{unsolved, solves-none}
 use Rattle.decode.proofs.Answer.{correction, alone-counted, known-beside}
-use Rattle.decode.proofs.Kind.{formed}
 use Rattle.decode.proofs.Cards.{to-keep, passed, first-found, second-found, not-chips, card-reads, chips-reads}
 
 pub sums-at : (ls : List ℕ) → LabelSet ls → (s : Sums) (j : ℕ) → j < 5 → (words : List ℕ) → words ≡ spread ls
@@ -89,12 +88,12 @@ within-alone : (z : List ℕ) (j : ℕ) (qs : List ℕ) → Within j qs (rows-on
 within-alone z j qs = record { card = refl; first = inl refl; second = inl refl }
 
 -- ---- a turn: z are the rows, and n of them are not 0
-module _ (ls : List ℕ) (ok : LabelSet ls) (s : Sums) (n : ℕ) (en : n ≡ places (rows-only (rows-of s) 0)) where
+module _ (ls : List ℕ) (ok : LabelSet ls) (s : Sums) (n : ℕ) (en : n ≡ weight (rows-only (rows-of s) 0)) where
   n-is : n ≡ tally 9 (nonzero-at (rows-of s))
   n-is = en ∙ alone-counted (rows-of s) 0
 
   module _ (j : ℕ) (hj : j < 5) (t : Bool) (h : Alone ls s j t) where
-    same-n : n ≡ places (rows-only (rows-of s) j)
+    same-n : n ≡ weight (rows-only (rows-of s) j)
     same-n = n-is ∙ sym (alone-counted (rows-of s) j)
 
     kept : t ≡ true → (b : List ℕ) → Known ls b s → Reached ls j (keep j []) b (applied b (rows-only (rows-of s) j))
@@ -106,8 +105,7 @@ module _ (ls : List ℕ) (ok : LabelSet ls) (s : Sums) (n : ℕ) (en : n ≡ pla
     found-chips e l kind q d qd =
         subst (λ (x : Change). Answers ls None [] s (record { reading = Corrected kind; change = x })) (sym qd)
         (subst (λ (x : Kind). Answers ls None [] s (record { reading = Corrected x; change = rows-only (rows-of s) j })) (sym (q ∙ ap chips-kind same-n))
-        (correction ls None [] s (chips-kind (places (rows-only (rows-of s) j))) (rows-only (rows-of s) j)
-        (formed (rows-only (rows-of s) j) j hj [] (within-alone (rows-of s) j []) (tt, tt))
+        (correction ls None [] s (chips-kind (weight (rows-only (rows-of s) j))) (rows-only (rows-of s) j)
         (λ b k. chips-reads ls ok [] tt b (k .block) j hj (rows-only (rows-of s) j) (within-alone (rows-of s) j []) (kept e b k)
         (omega (arith, strays-alone (rows-of s) j, n-is)))))
 
@@ -130,6 +128,6 @@ module _ (ls : List ℕ) (ok : LabelSet ls) (s : Sums) (n : ℕ) (en : n ≡ pla
     unfolding keep
     card-answers e looked d qd =
         subst (λ (x : Change). Answers ls None [] s (record { reading = Corrected (OneCard j n); change = x })) (sym qd)
-        (correction ls None [] s (OneCard j n) (rows-only (rows-of s) j) (formed (rows-only (rows-of s) j) j hj [] (within-alone (rows-of s) j []) (tt, tt))
+        (correction ls None [] s (OneCard j n) (rows-only (rows-of s) j)
         (λ b k. subst (λ (x : ℕ). Reads ls None [] b b (in-card j x) (applied b (rows-only (rows-of s) j))) (sym same-n)
         (card-reads ls ok [] tt b (k .block) j hj (rows-only (rows-of s) j) (within-alone (rows-of s) j []) (kept e b k) (looked b k))))

@@ -1,6 +1,5 @@
 -- The answers: a refusal with no change, and a correction with the change that makes it.
 --
---   formed-none                 the change that adds nothing is well formed
 --   refusal, correction         the two ways in which an answer comes about
 --   alone-counted               how many bytes a card's rows are; known-beside: what is known of a block beside a card
 --   unlawful-decodes, lawful-decodes   the contract, from the marks' cause
@@ -18,7 +17,7 @@ use Rattle.marks.specs.declared.Marks.{Marks}
 use Rattle.marks.proofs.Laws.{lawful-cause}
 use Rattle.sums.specs.Sums.{rows-of, ReducedSums}
 use Rattle.sums.specs.declared.Sums.{Sums}
-use Rattle.change.specs.Change.{applied, no-change, nonzero-at, places, WellFormed}
+use Rattle.change.specs.Change.{applied, no-change, nonzero-at, weight}
 use Rattle.change.specs.declared.Change.{Change}
 use Rattle.change.proofs.Made.{applied-none}
 use Rattle.reading.specs.Reading.{reading-answer, Reads}
@@ -30,9 +29,6 @@ use Rattle.decode.specs.Equations.{KnownAt, rows-only}
 use Rattle.decode.specs.Search.{Known, SumsAt}
 use Rattle.decode.specs.Decode.{Answers, Decodes}
 use Rattle.decode.specs.declared.Decoded.{Decoded}
-
-pub formed-none : WellFormed no-change
-formed-none = record { card = omega arith; first = inl refl; second = inl refl }
 
 corrected : (k : Kind) → number (reading-answer (Corrected k)) ≡ 0
 corrected Clean = refl
@@ -47,16 +43,15 @@ module _ (ls : List ℕ) (c : CardMark) (ps : List ℕ) (s : Sums) where
         subst (λ (x : Reading). Reads ls c ps b b (reading-answer x) (applied b (r .change))) (sym e)
         (subst (Reads ls c ps b b (reading-answer a)) (sym (ap (applied b) q ∙ applied-none b)) (h b known));
     unchanged = λ n. q;
-    formed = subst WellFormed (sym q) formed-none;
   }
 
-  pub correction : (k : Kind) (d : Change) → WellFormed d → ((b : List ℕ) → Known ls b s → Reads ls c ps b b (reading-answer (Corrected k)) (applied b d))
+  pub correction : (k : Kind) (d : Change) → ((b : List ℕ) → Known ls b s → Reads ls c ps b b (reading-answer (Corrected k)) (applied b d))
       → Answers ls c ps s (record { reading = Corrected k; change = d })
-  correction k d w h = record { reads = h; unchanged = λ n. absurd (n (corrected k)); formed = w }
+  correction k d h = record { reads = h; unchanged = λ n. absurd (n (corrected k)) }
 
 -- ---- as the code goes
-pub alone-counted : (z : List ℕ) (j : ℕ) → places (rows-only z j) ≡ tally 9 (nonzero-at z)
-unfolding places
+pub alone-counted : (z : List ℕ) (j : ℕ) → weight (rows-only z j) ≡ tally 9 (nonzero-at z)
+unfolding weight
 alone-counted z j = omega arith
 
 pub known-beside : (ls b : List ℕ) → LabelSet ls → (s : Sums) → Known ls b s → (j t₁ t₂ : ℕ) → SumsAt ls s j t₁ t₂ → KnownAt ls b (rows-of s) j t₁ t₂
@@ -69,7 +64,6 @@ module _ (s : Sums) (m : Marks) (r : Decoded) where
     reads = λ lawful b bb h. absurd (n (q ∙ lawful-cause m lawful));
     unlawful = λ z. ap reading-answer e ∙ ap refused q;
     unchanged = λ z. d;
-    formed = subst WellFormed (sym d) formed-none;
   }
 
   pub lawful-decodes : marks-cause m ≡ 0 → (ls : List ℕ) → ls ≡ built-in → (c : CardMark) → m .card ≡ c → (ps : List ℕ) → ps ≡ marked-chips m
@@ -81,5 +75,4 @@ module _ (s : Sums) (m : Marks) (r : Decoded) where
         (subst (λ (x : List ℕ). Answers x c ps s r) e a .reads b (record { block = bb; sums = h })));
     unlawful = λ n. absurd (n z);
     unchanged = a .unchanged;
-    formed = a .formed;
   }

@@ -13,7 +13,7 @@ use Prim.Native.Nat.{ℕ, zero, suc, _/_, _<_, _≤_}
 use native.Mathlib.Omega.{arith}
 use lib.Dec.{eqb}
 use borrow.Author.Tests.{ne-eqb}
-use Rattle.base.specs.Base.{tally}
+use Rattle.base.specs.Base.{tally, Few}
 use Rattle.base.proofs.Tests.{same}
 use Rattle.field.specs.Field.{_·_}
 use Rattle.field.proofs.Gf256.{field}
@@ -21,15 +21,15 @@ use Rattle.field.proofs.Ring.{mul-zero}
 use Rattle.answer.specs.Answer.{refused}
 use Rattle.code.specs.Block.{Block, changes, OneMember}
 use Rattle.code.specs.Labels.{entry, LabelSet}
-use Rattle.code.specs.Reach.{rules, Few, Beside, keep, Reached}
+use Rattle.code.specs.Reach.{rules, Beside, keep, Reached}
 use Rattle.code.proofs.Few.{keep-beside}
 use Rattle.marks.specs.Marks.{chips-of}
 use Rattle.marks.specs.declared.CardMark.the-variants.{Card}
 use Rattle.sums.specs.Sums.{rows-of}
 use Rattle.sums.specs.declared.Sums.{Sums}
-use Rattle.change.specs.Change.{applied, no-change, nonzero-at, places}
+use Rattle.change.specs.Change.{applied, no-change, nonzero-at, weight}
 use Rattle.change.specs.declared.Change.{Change}
-use Rattle.change.proofs.Places.{changes-places, unmoved, moved}
+use Rattle.change.proofs.Weight.{changes-weight, unmoved, moved}
 use Rattle.reading.specs.Reading.{S, reading-answer, Reads}
 use Rattle.reading.specs.declared.Kind.{Kind}
 use Rattle.reading.specs.declared.Reading.the-variants.{Corrected, Refused}
@@ -60,13 +60,13 @@ module _ (ls : List ℕ) (ok : LabelSet ls) (ps : List ℕ) (few : Few rules ps)
     one : OneMember (S ls (Card j) ps b) (applied b d)
     one = (member, λ y m. card-one ls ok ps few b j hj y (applied b d) m member)
 
-    n-is : places d ≡ changes b (applied b d)
-    n-is = sym (changes-places d (formed d j hj (keep j (beside-chips ps f)) w off) b (bb .long))
+    n-is : weight d ≡ changes b (applied b d)
+    n-is = sym (changes-weight d (formed d j hj (keep j (beside-chips ps f)) w off) b (bb .long))
 
-    pub found-reads : Reads ls (Card j) ps b b (reading-answer (Corrected (card-kind j (tally 9 (nonzero-at (d .rows))) (places d)))) (applied b d)
+    pub found-reads : Reads ls (Card j) ps b b (reading-answer (Corrected (card-kind j (tally 9 (nonzero-at (d .rows))) (weight d)))) (applied b d)
     found-reads = go (tally 9 (nonzero-at (d .rows))) refl
       where
-        chips : tally 9 (nonzero-at (d .rows)) ≡ 0 → (n : ℕ) → places d ≡ n → Reads ls (Card j) ps b b (reading-answer (Corrected (chips-kind n))) (applied b d)
+        chips : tally 9 (nonzero-at (d .rows)) ≡ 0 → (n : ℕ) → weight d ≡ n → Reads ls (Card j) ps b b (reading-answer (Corrected (chips-kind n))) (applied b d)
         chips z zero e = (one, unmoved d (formed d j hj (keep j (beside-chips ps f)) w off) b (bb .long) e)
         chips z (suc n) e = (
           one,
@@ -75,8 +75,8 @@ module _ (ls : List ℕ) (ok : LabelSet ls) (ps : List ℕ) (few : Few rules ps)
           (member .allowed, card-kept d j hj (keep j (beside-chips ps f)) w off b (bb .long) z),
         )
 
-        go : (own : ℕ) → tally 9 (nonzero-at (d .rows)) ≡ own → Reads ls (Card j) ps b b (reading-answer (Corrected (card-kind j own (places d)))) (applied b d)
-        go zero e = chips e (places d) refl
+        go : (own : ℕ) → tally 9 (nonzero-at (d .rows)) ≡ own → Reads ls (Card j) ps b b (reading-answer (Corrected (card-kind j own (weight d)))) (applied b d)
+        go zero e = chips e (weight d) refl
         go (suc own) e = (
           one,
           n-is,
@@ -98,12 +98,11 @@ module _ (ls : List ℕ) (ok : LabelSet ls) (ps : List ℕ) (few : Few rules ps)
       (to-keep ls j (beside-chips ps f) b x y)))
 
   pub found-answers : (f : ℕ) → f < 45 → (d : Change) → Solves ls (rows-of s) j (keep j (beside-chips ps f)) t₁ t₂ d
-      → (kind : Kind) → kind ≡ card-kind j (tally 9 (nonzero-at (d .rows))) (places d)
+      → (kind : Kind) → kind ≡ card-kind j (tally 9 (nonzero-at (d .rows))) (weight d)
       → Answers ls (Card j) ps s (record { reading = Corrected kind; change = d })
   found-answers f hf d v kind q =
       subst (λ (x : Kind). Answers ls (Card j) ps s (record { reading = Corrected x; change = d })) (sym q)
-      (correction ls (Card j) ps s (card-kind j (tally 9 (nonzero-at (d .rows))) (places d)) d
-      (formed d j hj (keep j (beside-chips ps f)) (v .within) (off-at f hf))
+      (correction ls (Card j) ps s (card-kind j (tally 9 (nonzero-at (d .rows))) (weight d)) d
       (λ b k. found-reads ls ok ps few b j hj (k .block) f hf d (v .within) (v .reached b (known-beside ls b ok s k j t₁ t₂ at))))
 
 pub beside-marked : (n p q f : ℕ) → n ≢ 0 → beside-chips (chips-of n p q) f ≡ chips-of n p q

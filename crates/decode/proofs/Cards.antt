@@ -11,23 +11,23 @@ use mathlib.Core.List.{List, []}
 use Prim.Native.Nat.{ℕ, zero, suc, _+_, _/_, _<_, _≤_}
 use native.Mathlib.Omega.{arith}
 use lib.ListN.{length}
-use Rattle.base.specs.Base.{In}
+use Rattle.base.specs.Base.{In, Few}
 use Rattle.base.proofs.Tests.{same}
 use Rattle.answer.specs.Answer.{in-card, refused, refused-card}
 use Rattle.code.specs.Block.{Block, OneMember}
 use Rattle.code.specs.Labels.{LabelSet}
-use Rattle.code.specs.Reach.{rules, Few, Beside, keep, Reached}
+use Rattle.code.specs.Reach.{rules, Beside, keep, Reached}
 use Rattle.code.proofs.Few.{in-keep, keep-in, keep-beside, widen, between}
 use Rattle.code.proofs.Unique.{alike}
 use Rattle.marks.specs.declared.CardMark.the-variants.{None}
-use Rattle.change.specs.Change.{applied, places}
+use Rattle.change.specs.Change.{applied, weight}
 use Rattle.change.specs.declared.Change.{Change}
-use Rattle.change.proofs.Places.{changes-places, unmoved, moved}
+use Rattle.change.proofs.Weight.{changes-weight, unmoved, moved}
 use Rattle.reading.specs.Allowed.{further, ChipKind}
 use Rattle.reading.specs.Reading.{S, reading-answer, Reads}
 use Rattle.reading.specs.declared.Reading.the-variants.{Corrected}
 use Rattle.reading.proofs.Searches.{covered, covers}
-use Rattle.reading.proofs.Facts.{chip-one, apart, reaches}
+use Rattle.reading.proofs.Facts.{chip-one, apart, by-marked, reaches}
 use Rattle.decode.specs.Equations.{Within}
 use Rattle.decode.specs.Search.{strays, chips-kind, NoneBut, Looked}
 use Rattle.decode.proofs.Kind.{formed, chip-yes, chip-no}
@@ -95,8 +95,8 @@ module _ (ls : List ℕ) (ok : LabelSet ls) (ps : List ℕ) (few : Few rules ps)
       x,
       covers ls ps b y card (omega arith) q,
       covers ls ps b x j hj r,
-      λ e. n (apart ps b y card j (λ z. omega (arith, below)) (q .only)
-          (subst (λ (z : List ℕ). Reached ls j ps b z) (sym e) r .only)),
+      λ e. n (by-marked ps b y (apart ps b y card j (λ z. omega (arith, below)) (q .only)
+          (subst (λ (z : List ℕ). Reached ls j ps b z) (sym e) r .only))),
     ),
     reaches ls ps b card (omega arith) y q,
   )
@@ -118,11 +118,11 @@ module _ (ls : List ℕ) (ok : LabelSet ls) (ps : List ℕ) (few : Few rules ps)
     pub not-chips : further (length ps) < strays d ps → ChipKind ps b (applied b d) → ⊥
     not-chips = chip-no d j hj (keep j ps) w off b (bb .long) ps (λ p i. keep-in j p ps i)
 
-    pub card-reads : Looked ls ps b 5 1 j → Reads ls None ps b b (in-card j (places d)) (applied b d)
+    pub card-reads : Looked ls ps b 5 1 j → Reads ls None ps b b (in-card j (weight d)) (applied b d)
     card-reads (below, (x, q, n), none) =
         let e : x ≡ applied b d = one-card j hj x (applied b d) q reached in (
           (covers ls ps b (applied b d) j hj reached, λ y m. let v = covered ls ps b y m in pick y (v .0) (v .1) (v .2) (same (v .0) j)),
-          sym (changes-places d (formed d j hj (keep j ps) w off) b (bb .long)),
+          sym (changes-weight d (formed d j hj (keep j ps) w off) b (bb .long)),
           subst (λ (z : List ℕ). ChipKind ps b z → ⊥) e n,
           (hj, reached .only),
         )
@@ -131,8 +131,8 @@ module _ (ls : List ℕ) (ok : LabelSet ls) (ps : List ℕ) (few : Few rules ps)
         pick y i hi v (inl z) = one-card j hj y (applied b d) (subst (λ (k : ℕ). Reached ls k ps b y) z v) reached
         pick y i hi v (inr z) = absurd (none i hi z y v)
 
-    pub chips-reads : strays d ps ≤ further (length ps) → Reads ls None ps b b (reading-answer (Corrected (chips-kind (places d)))) (applied b d)
-    chips-reads h = go (places d) refl
+    pub chips-reads : strays d ps ≤ further (length ps) → Reads ls None ps b b (reading-answer (Corrected (chips-kind (weight d)))) (applied b d)
+    chips-reads h = go (weight d) refl
       where
         chips : ChipKind ps b (applied b d)
         chips = chip-yes d j hj (keep j ps) w off b (bb .long) ps (λ p i. keep-in j p ps i) h
@@ -140,11 +140,11 @@ module _ (ls : List ℕ) (ok : LabelSet ls) (ps : List ℕ) (few : Few rules ps)
         one : OneMember (S ls None ps b) (applied b d)
         one = chip-one ls ok ps few b None tt (applied b d) (covers ls ps b (applied b d) j hj reached) chips
 
-        go : (n : ℕ) → places d ≡ n → Reads ls None ps b b (reading-answer (Corrected (chips-kind n))) (applied b d)
+        go : (n : ℕ) → weight d ≡ n → Reads ls None ps b b (reading-answer (Corrected (chips-kind n))) (applied b d)
         go zero e = (one, unmoved d (formed d j hj (keep j ps) w off) b (bb .long) e)
         go (suc n) e = (
           one,
           moved d (formed d j hj (keep j ps) w off) b (bb .long) (subst (λ (k : ℕ). 1 ≤ k) (sym e) (omega arith)),
-          sym e ∙ sym (changes-places d (formed d j hj (keep j ps) w off) b (bb .long)),
+          sym e ∙ sym (changes-weight d (formed d j hj (keep j ps) w off) b (bb .long)),
           chips,
         )

@@ -7,3 +7,5 @@ pub mod Cards
 pub mod Beside
 pub mod Alone
 pub mod Turns
+pub mod Agree
+pub mod Tied

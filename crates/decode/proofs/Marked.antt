@@ -19,7 +19,7 @@ use Rattle.marks.specs.Marks.{chips-of, marked-chips, is-marked}
 use Rattle.marks.specs.declared.Marks.{Marks}
 use Rattle.marks.proofs.Chips.{chips-many}
 use Rattle.change.specs.declared.Change.{Change}
-use Rattle.change.proofs.Places.{zero-not, nonzero-is}
+use Rattle.change.proofs.Weight.{zero-not, nonzero-is}
 use Rattle.reading.specs.Allowed.{further}
 use Rattle.decode.specs.Search.{stray}
 

@@ -11,10 +11,11 @@ use Prim.Native.Nat.{ℕ, _+_, _<_, _≤_}
 use lib.Dec.{leb}
 use lib.ListN.{length}
 use borrow.Author.Tests.{leb-true, leb-false}
+use Rattle.base.specs.Base.{Few}
 use Rattle.field.specs.Field.{_⊕_}
 use Rattle.answer.specs.Answer.{in-card}
 use Rattle.code.specs.Labels.{LabelSet}
-use Rattle.code.specs.Reach.{rules, Few, Beside, keep, Reached}
+use Rattle.code.specs.Reach.{rules, Beside, keep, Reached}
 use Rattle.code.proofs.Few.{keep-beside}
 use Rattle.marks.specs.Marks.{marked-chips, LawfulMarks}
 use Rattle.marks.specs.declared.CardMark.the-variants.{None}
@@ -23,7 +24,7 @@ use Rattle.marks.proofs.Laws.{chips-counted}
 use Rattle.sums.specs.Words.{spread, gathered, at-point}
 use Rattle.sums.specs.Sums.{rows-of, ReducedSums}
 use Rattle.sums.specs.declared.Sums.{Sums}
-use Rattle.change.specs.Change.{applied, places}
+use Rattle.change.specs.Change.{applied, weight}
 use Rattle.change.specs.declared.Change.{Change}
 use Rattle.reading.specs.Allowed.{further}
 use Rattle.reading.specs.Reading.{Reads}
@@ -35,7 +36,6 @@ use Rattle.decode.specs.Search.{Known, SumsAt, strays, chips-kind, Looke
 use Rattle.decode.specs.Decode.{Answers}
 use Rattle.decode.proofs.Describe.{unsolved}
 use Rattle.decode.proofs.Answer.{correction, known-beside}
-use Rattle.decode.proofs.Kind.{formed}
 use Rattle.decode.proofs.Alone.{sums-at}
 use Rattle.decode.proofs.Cards.{from-keep, to-keep, first-found, second-found, not-chips, card-reads, chips-reads}
 
@@ -71,11 +71,11 @@ module _ (ls : List ℕ) (ok : LabelSet ls) (ps : List ℕ) (few : Few rules ps)
     reach : (b : List ℕ) → Known ls b s → Reached ls j (keep j ps) b (applied b d)
     reach b k = v .reached b (known-beside ls b ok s k j t₁ t₂ at)
 
-    pub found-chips : strays d ps ≤ further (length ps) → (n : ℕ) → n ≡ places d → (kind : Kind) → kind ≡ chips-kind n
+    pub found-chips : strays d ps ≤ further (length ps) → (n : ℕ) → n ≡ weight d → (kind : Kind) → kind ≡ chips-kind n
         → Answers ls None ps s (record { reading = Corrected kind; change = d })
     found-chips h n en kind q =
         subst (λ (x : Kind). Answers ls None ps s (record { reading = Corrected x; change = d })) (sym (q ∙ ap chips-kind en))
-        (correction ls None ps s (chips-kind (places d)) d (formed d j hj (keep j ps) (v .within) off)
+        (correction ls None ps s (chips-kind (weight d)) d
         (λ b k. chips-reads ls ok ps few b (k .block) j hj d (v .within) (reach b k) h))
 
     pub found-card : further (length ps) < strays d ps → (b : List ℕ) → Known ls b s → (card : ℕ) → Looked ls ps b j 0 card → Looked ls ps b (j + 1) 1 j
@@ -86,9 +86,9 @@ module _ (ls : List ℕ) (ok : LabelSet ls) (ps : List ℕ) (few : Few rules ps)
     pub second-card : (b : List ℕ) → Known ls b s → (card : ℕ) → Looked ls ps b j 1 card → Looked ls ps b 5 2 card
     second-card b k card = second-found ls ok ps few b j 5 hj (applied b d) (from-keep ls j ps b (applied b d) (reach b k)) card
 
-    pub card-answers : (n : ℕ) → n ≡ places d → ((b : List ℕ) → Known ls b s → Looked ls ps b 5 1 j)
+    pub card-answers : (n : ℕ) → n ≡ weight d → ((b : List ℕ) → Known ls b s → Looked ls ps b 5 1 j)
         → Answers ls None ps s (record { reading = Corrected (OneCard j n); change = d })
     card-answers n en looked =
-        correction ls None ps s (OneCard j n) d (formed d j hj (keep j ps) (v .within) off)
+        correction ls None ps s (OneCard j n) d
         (λ b k. subst (λ (x : ℕ). Reads ls None ps b b (in-card j x) (applied b d)) (sym en)
         (card-reads ls ok ps few b (k .block) j hj d (v .within) (reach b k) (looked b k)))

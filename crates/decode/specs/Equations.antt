@@ -5,7 +5,7 @@
 --   rows-only       card j takes the rows, and no further chip is changed
 --   Within          d changes card j and chips of qs only
 --   Solves          d reaches a lawful block, from every block with these rows and sums
---   chips-in        the chips of Places
+--   chips-off       the chips of OffCard
 --   ChipOn, Further a chip that is found by its entry in card j's reduced matrix: on another card, on any
 use mathlib.Core.Path.{_≡_}
 use mathlib.Core.Bool.{Bool, true, _&&_}
@@ -23,7 +23,7 @@ use Rattle.marks.specs.Marks.{chips-of}
 use Rattle.sums.specs.Sums.{ReducedSums}
 use Rattle.change.specs.Change.{applied}
 use Rattle.change.specs.declared.Change.{Change}
-use Rattle.decode.specs.declared.chips.Places.{Places}
+use Rattle.decode.specs.declared.chips.OffCard.{OffCard}
 
 pub record KnownAt (labels b z : List ℕ) (j t₁ t₂ : ℕ) : Type 0 where
   pub set : LabelSet labels
@@ -49,8 +49,8 @@ pub record Solves (labels z : List ℕ) (j : ℕ) (qs : List ℕ) (t₁ t₂ : �
   pub within : Within j qs d
   pub reached : (b : List ℕ) → KnownAt labels b z j t₁ t₂ → Reached labels j qs b (applied b d)
 
-abbrev pub chips-in : Places → List ℕ
-chips-in w = chips-of (w .count) (w .first) (w .second)
+abbrev pub chips-off : OffCard → List ℕ
+chips-off w = chips-of (w .count) (w .first) (w .second)
 
 -- ---- a chip by its entry
 -- i is the first chip of another card whose entry is v; 9 where there is none

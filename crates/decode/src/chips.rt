@@ -6,28 +6,28 @@ ghost use lib.Dec.{leb};
 ghost use Rattle.code.specs.Reach.{keep};
 ghost use Rattle.marks.specs.Marks.{marked-chips};
 ghost use Rattle.reading.specs.Allowed.{further};
-ghost use Rattle.decode.specs.Equations.{chips-in};
+ghost use Rattle.decode.specs.Equations.{chips-off};
 ghost use Rattle.decode.specs.Search.{stray, strays};
 
-// At most two chips.
-pub(crate) struct Places {
+// The marked chips off a card: at most two.
+pub(crate) struct OffCard {
     pub(crate) count: u8,
     pub(crate) first: u8,
     pub(crate) second: u8,
 }
 
 // Chip p, unless it is on card j.
-fn one_off(p: u8, j: u8) -> Places
-    ensures { λ r. ⌜ chips-in r ≡ keep j (p ∷ []) ⌝ }
+fn one_off(p: u8, j: u8) -> OffCard
+    ensures { λ r. ⌜ chips-off r ≡ keep j (p ∷ []) ⌝ }
 {
     if p / 9 == j {
-        return Places {
+        return OffCard {
             count: 0,
             first: 0,
             second: 0,
         };
     }
-    Places {
+    OffCard {
         count: 1,
         first: p,
         second: 0,
@@ -35,14 +35,14 @@ fn one_off(p: u8, j: u8) -> Places
 }
 
 // The marked chips that are off card j.
-pub(crate) fn off_card(m: marks::Marks, j: u8) -> Places
-    ensures { λ r. ⌜ chips-in r ≡ keep j (marked-chips m) ⌝ }
+pub(crate) fn off_card(m: marks::Marks, j: u8) -> OffCard
+    ensures { λ r. ⌜ chips-off r ≡ keep j (marked-chips m) ⌝ }
 {
     let n = m.count;
     let a = m.first;
     let b = m.second;
     if n == 0 {
-        return Places {
+        return OffCard {
             count: 0,
             first: 0,
             second: 0,
@@ -57,7 +57,7 @@ pub(crate) fn off_card(m: marks::Marks, j: u8) -> Places
     if a / 9 == j {
         return one_off(b, j);
     }
-    Places {
+    OffCard {
         count: 2,
         first: a,
         second: b,

@@ -8,7 +8,7 @@ ghost use lib.ListN.{length, getD, set};
 ghost use Rattle.field.specs.Field.{_⊕_, _·_};
 ghost use Rattle.code.specs.Labels.{entry, LabelSet};
 ghost use Rattle.code.specs.Reach.{Beside};
-ghost use Rattle.decode.specs.Equations.{fits-by, rows-only, Solves, chips-in, ChipOn, Further};
+ghost use Rattle.decode.specs.Equations.{fits-by, rows-only, Solves, chips-off, ChipOn, Further};
 
 // Chip p's entry in card j's reduced matrix.
 fn entry_at(labels: &[u8], j: u8, p: u8) -> u8
@@ -107,9 +107,9 @@ fn with_two(
 }
 
 // Whether card j and the chips w reach a lawful block.
-pub(crate) fn fits(labels: &[u8], once: u8, squared: u8, j: u8, w: super::chips::Places) -> bool
-    requires { ⌜ (length (now labels) ≡ 45) × (j < 5) × Beside j (chips-in w) ⌝ }
-    ensures { λ r. ⌜ r ≡ fits-by (now (labels .entry)) j (chips-in w) once squared ⌝ }
+pub(crate) fn fits(labels: &[u8], once: u8, squared: u8, j: u8, w: super::chips::OffCard) -> bool
+    requires { ⌜ (length (now labels) ≡ 45) × (j < 5) × Beside j (chips-off w) ⌝ }
+    ensures { λ r. ⌜ r ≡ fits-by (now (labels .entry)) j (chips-off w) once squared ⌝ }
 {
     let n = w.count;
     if n == 0 {
@@ -128,10 +128,10 @@ pub(crate) fn solve(
     once: u8,
     squared: u8,
     j: u8,
-    w: super::chips::Places,
+    w: super::chips::OffCard,
 ) -> change::Change
-    requires { ⌜ (length (now labels) ≡ 45) × (j < 5) × Beside j (chips-in w) × (fits-by (now labels) j (chips-in w) once squared ≡ true) ⌝ }
-    ensures { λ r. ⌜ Solves (now (labels .entry)) rows j (chips-in w) once squared r ⌝ }
+    requires { ⌜ (length (now labels) ≡ 45) × (j < 5) × Beside j (chips-off w) × (fits-by (now labels) j (chips-off w) once squared ≡ true) ⌝ }
+    ensures { λ r. ⌜ Solves (now (labels .entry)) rows j (chips-off w) once squared r ⌝ }
 {
     let n = w.count;
     if n == 0 {

@@ -10,20 +10,27 @@ ghost use Rattle.base.specs.Base.{tally};
 ghost use Rattle.code.specs.Labels.{built-in, LabelSet};
 ghost use Rattle.marks.specs.Marks.{marked-chips, LawfulMarks};
 ghost use Rattle.marks.specs.declared.CardMark.the-variants.{None, Card};
-ghost use Rattle.sums.specs.Words.{spread, gathered};
 ghost use Rattle.sums.specs.Sums.{rows-of};
 ghost use Rattle.sums.specs.declared.Sums.{Sums};
-ghost use Rattle.change.specs.Change.{nonzero-at, no-change, places};
+ghost use Rattle.change.specs.Change.{applied, nonzero-at, no-change, weight};
 ghost use Rattle.decode.specs.Search.{SumsAt, Alone, chips-kind, card-kind};
 ghost use Rattle.decode.specs.Decode.{Answers, Decodes};
 
 mod chips;
 mod equations;
 
-// A reading, and the change that it stands for: none on a refusal.
+// A reading, and the change that it stands for: none on a refusal. Several changes can lead to one block, and which of them it is stays
+// in this crate: what can be seen of it is what it makes of a block.
 pub struct Decoded {
     pub reading: reading::Reading,
-    pub change: change::Change,
+    change: change::Change,
+}
+
+// Makes the change in a block. What is not 45 bytes is no block, and stays as it is.
+pub fn apply(d: Decoded, block: &mut [u8])
+    ensures { λ _. ⌜ now (block .exit) ≡ applied (now (block .entry)) (d .change) ⌝ }
+{
+    change::apply(block, d.change);
 }
 
 // A refusal changes nothing.
@@ -45,21 +52,13 @@ fn chips_kind(n: u8) -> reading::Kind
     reading::Kind::Chips(n)
 }
 
-// The word that gathers the rows by card j's words.
-fn card_word(rows: [u8; 9], j: u8) -> u64
-    requires { ⌜ j < 5 ⌝ }
-    ensures { λ u. ⌜ u ≡ gathered rows 0 (spread built-in) j ⌝ }
-{
-    sums::gather_card(&rows, 0, j)
-}
-
 // ---- no card marked
 // Whether card j alone reaches a lawful block. The second sum is worked out only where the first fits.
 fn fits_alone(s: sums::Sums, rows: [u8; 9], j: u8) -> bool
     requires { ⌜ (j < 5) × (rows ≡ rows-of s) ⌝ }
     ensures { λ r. ⌜ Alone built-in s j r ⌝ }
 {
-    let u = card_word(rows, j);
+    let u = sums::card_word(rows, j);
     if sums::at_x(u) != s.once {
         return false;
     }
@@ -113,7 +112,7 @@ fn over_cards(labels: &[u8], s: sums::Sums, m: marks::Marks) -> Decoded
     let mut held_once: u8 = 0;
     let mut held_squared: u8 = 0;
     'cards: for j in 0u8..5 {
-        let u = card_word(rows, j);
+        let u = sums::card_word(rows, j);
         let once = field::add(s.once, sums::at_x(u));
         let squared = field::add(s.squared, sums::at_x_squared(u));
         let w = chips::off_card(m, j);
@@ -153,7 +152,7 @@ fn over_cards(labels: &[u8], s: sums::Sums, m: marks::Marks) -> Decoded
 
 // ---- card j marked
 fn kind_under(d: change::Change, j: u8) -> reading::Kind
-    ensures { λ r. ⌜ r ≡ card-kind j (tally 9 (nonzero-at (d .rows))) (places d) ⌝ }
+    ensures { λ r. ⌜ r ≡ card-kind j (tally 9 (nonzero-at (d .rows))) (weight d) ⌝ }
 {
     let rows = d.rows;
     let own = change::count(equations::alone(rows, j));
@@ -196,7 +195,7 @@ fn under_card(labels: &[u8], s: sums::Sums, m: marks::Marks, j: u8) -> Decoded
     ensures { λ r. ⌜ Answers (now (labels .entry)) (Card j) (marked-chips m) s r ⌝ }
 {
     let rows = sums::rows(s);
-    let u = card_word(rows, j);
+    let u = sums::card_word(rows, j);
     let once = field::add(s.once, sums::at_x(u));
     let squared = field::add(s.squared, sums::at_x_squared(u));
     if m.count == 0 {

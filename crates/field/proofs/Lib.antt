@@ -13,3 +13,4 @@ pub mod Gf256
 pub mod Steps
 pub mod Inverses
 pub mod Powers
+pub mod Tied

@@ -1,7 +1,5 @@
--- Lists of chips that marks can hold: few, positions, and different.
+-- Lists of chips that marks can hold: two positions at most, none twice.
 --
---   Distinct                   no number stands twice in the list
---   Few                        at most two, each below 45, none twice
 --   places-few, -count, -back  the chips of places within their ranges: few; as many as the count; the record of them
 --   few-lawful                 a record of few chips is lawful; kept: and has those chips
 --   added, removed             few chips with one more; with one taken out
@@ -15,48 +13,18 @@ use lib.ListN.{length}
 use native.Mathlib.Omega.{arith}
 use lib.Dec.{eqb, ltb}
 use borrow.Author.Tests.{ltb-true, eqb-true, eqb-false}
-use Rattle.base.specs.Base.{if, In}
+use Rattle.base.specs.Base.{if, In, Few}
+use Rattle.base.proofs.Few.{few-one, few-two, few-more}
 use Rattle.marks.specs.Marks.{LawfulMarks, CardInRange, chips-of, marked-chips, places-in-range}
 use Rattle.marks.specs.Mark.{of-chips, remove}
 use Rattle.marks.specs.declared.CardMark.{CardMark}
 use Rattle.marks.proofs.Tests.{both}
 
-abbrev pub Distinct : List ℕ → Type 0
-Distinct [] = Unit {0}
-Distinct (p ∷ l) = (In p l → ⊥) × Distinct l
-
-pub record Few (l : List ℕ) : Type 0 where
-  pub few : length l ≤ 2
-  pub below : (p : ℕ) → In p l → p < 45
-  pub differ : Distinct l
-
-no-chip : Few []
-no-chip = record { few = omega arith; below = λ p h. absurd h; differ = tt }
-
-one-chip : (a : ℕ) → a < 45 → Few (a ∷ [])
-one-chip a h = record { few = omega arith; below = each; differ = ((λ z. z), tt) }
-  where
-    each : (p : ℕ) → In p (a ∷ []) → p < 45
-    each p (inl e) = omega arith
-    each p (inr z) = absurd z
-
-two-chips : (a b : ℕ) → a < 45 → b < 45 → a ≢ b → Few (a ∷ b ∷ [])
-two-chips a b h g d = record { few = omega arith; below = each; differ = (other, ((λ z. z), tt)) }
-  where
-    each : (p : ℕ) → In p (a ∷ b ∷ []) → p < 45
-    each p (inl e) = omega arith
-    each p (inr (inl e)) = omega arith
-    each p (inr (inr z)) = absurd z
-
-    other : In a (b ∷ []) → ⊥
-    other (inl e) = d e
-    other (inr z) = z
-
 -- ---- the chips of places within their ranges
-pub places-few : (n a b : ℕ) → places-in-range n a b ≡ true → (n ≡ 2 → a ≢ b) → Few (chips-of n a b)
-places-few zero a b e d = no-chip
-places-few (suc zero) a b e d = one-chip a (ltb-true a 45 (both _ _ e .0))
-places-few (suc (suc zero)) a b e d = let h = both _ _ e in two-chips a b (ltb-true a 45 (h .0)) (ltb-true b 45 (h .1)) (d refl)
+pub places-few : (n a b : ℕ) → places-in-range n a b ≡ true → (n ≡ 2 → a ≢ b) → Few 2 (chips-of n a b)
+places-few zero a b e d = tt
+places-few (suc zero) a b e d = few-one a (ltb-true a 45 (both _ _ e .0))
+places-few (suc (suc zero)) a b e d = let h = both _ _ e in few-two a b (ltb-true a 45 (h .0)) (ltb-true b 45 (h .1)) (d refl)
 places-few (suc (suc (suc n))) a b e d = absurd (false≢true e)
 
 pub places-count : (n a b : ℕ) → n ≤ 2 → length (chips-of n a b) ≡ n
@@ -73,19 +41,13 @@ places-back card (suc (suc zero)) a b e = refl
 places-back card (suc (suc (suc n))) a b e = absurd (false≢true e)
 
 -- ---- a record of few chips
-pub few-lawful : (card : CardMark) (l : List ℕ) → CardInRange card → Few l → LawfulMarks (of-chips card l)
+pub few-lawful : (card : CardMark) (l : List ℕ) → CardInRange card → Few 2 l → LawfulMarks (of-chips card l)
 few-lawful card [] h f = record { card = h; count = omega arith; first = inr (refl, refl); second = inr (omega arith, refl); differ = λ e. omega arith }
 few-lawful card (p ∷ []) h f =
-    record { card = h; count = omega arith; first = inl (omega arith, f .below p (inl refl)); second = inr (omega arith, refl); differ = λ e. omega arith }
+    record { card = h; count = omega arith; first = inl (omega arith, f .0); second = inr (omega arith, refl); differ = λ e. omega arith }
 few-lawful card (p ∷ q ∷ []) h f =
-    record {
-      card = h;
-      count = omega arith;
-      first = inl (omega arith, f .below p (inl refl));
-      second = inl (refl, f .below q (inr (inl refl)));
-      differ = λ e d. f .differ .0 (inl d);
-    }
-few-lawful card (p ∷ q ∷ r ∷ l) h f = absurd (omega (arith, f .few))
+    record { card = h; count = omega arith; first = inl (omega arith, f .0); second = inl (refl, f .2 .0); differ = λ e d. f .1 (inl d) }
+few-lawful card (p ∷ q ∷ r ∷ l) h f = absurd (f .2 .2)
 
 pub kept : (card : CardMark) (l : List ℕ) → length l ≤ 2 → marked-chips (of-chips card l) ≡ l
 kept card [] h = refl
@@ -94,9 +56,9 @@ kept card (p ∷ q ∷ []) h = refl
 kept card (p ∷ q ∷ r ∷ l) h = absurd (omega arith)
 
 -- ---- one more
-pub added : (p : ℕ) (l : List ℕ) → Few l → length l < 2 → p < 45 → (In p l → ⊥) → Few (l ++ (p ∷ []))
-added p [] f n h d = one-chip p h
-added p (a ∷ []) f n h d = two-chips a p (f .below a (inl refl)) h (λ e. d (inl (sym e)))
+pub added : (p : ℕ) (l : List ℕ) → Few 2 l → length l < 2 → p < 45 → (In p l → ⊥) → Few 2 (l ++ (p ∷ []))
+added p [] f n h d = few-one p h
+added p (a ∷ []) f n h d = few-two a p (f .0) h (λ e. d (inl (sym e)))
 added p (a ∷ b ∷ l) f n h d = absurd (omega arith)
 
 pub added-in : (p : ℕ) (l : List ℕ) → In p (l ++ (p ∷ []))
@@ -104,7 +66,7 @@ added-in p [] = inl refl
 added-in p (a ∷ l) = inr (added-in p l)
 
 -- ---- one taken out
-removed-in : (p q : ℕ) (l : List ℕ) → In q (remove p l) → In q l
+pub removed-in : (p q : ℕ) (l : List ℕ) → In q (remove p l) → In q l
 removed-in p q [] h = h
 removed-in p q (a ∷ l) h = go (eqb p a) h (λ z. removed-in p q l z)
   where
@@ -113,35 +75,21 @@ removed-in p q (a ∷ l) h = go (eqb p a) h (λ z. removed-in p q l z)
     go false (inl e) r = inl e
     go false (inr h) r = inr (r h)
 
-removed-length : (p : ℕ) (l : List ℕ) → length (remove p l) ≤ length l
-removed-length p [] = omega arith
-removed-length p (a ∷ l) = go (eqb p a) (removed-length p l)
+pub removed : (n p : ℕ) (l : List ℕ) → Few n l → Few n (remove p l)
+removed n p [] f = tt
+removed zero p (a ∷ l) f = absurd f
+removed (suc n) p (a ∷ l) f = go (eqb p a) (removed n p l (f .2))
   where
-    go : (t : Bool) → length (remove p l) ≤ length l → length (if t l (a ∷ remove p l)) ≤ length (a ∷ l)
-    go true r = omega arith
-    go false r = omega arith
+    go : (t : Bool) → Few n (remove p l) → Few (suc n) (if t l (a ∷ remove p l))
+    go true r = few-more n (suc n) l (omega arith) (f .2)
+    go false r = (f .0, (λ h. f .1 (removed-in p a l h)), r)
 
-removed-differ : (p : ℕ) (l : List ℕ) → Distinct l → Distinct (remove p l)
-removed-differ p [] d = d
-removed-differ p (a ∷ l) d = go (eqb p a) (removed-differ p l (d .1))
-  where
-    go : (t : Bool) → Distinct (remove p l) → Distinct (if t l (a ∷ remove p l))
-    go true r = d .1
-    go false r = ((λ h. d .0 (removed-in p a l h)), r)
-
-pub removed : (p : ℕ) (l : List ℕ) → Few l → Few (remove p l)
-removed p l f =
-    record {
-      few = omega (arith, f .few, removed-length p l);
-      below = λ q h. f .below q (removed-in p q l h);
-      differ = removed-differ p l (f .differ);
-    }
-
-pub removed-out : (p : ℕ) (l : List ℕ) → Distinct l → In p (remove p l) → ⊥
-removed-out p [] d h = h
-removed-out p (a ∷ l) d h = go (eqb p a) refl h (removed-out p l (d .1))
+pub removed-out : (n p : ℕ) (l : List ℕ) → Few n l → In p (remove p l) → ⊥
+removed-out n p [] f h = h
+removed-out zero p (a ∷ l) f h = absurd f
+removed-out (suc n) p (a ∷ l) f h = go (eqb p a) refl h (removed-out n p l (f .2))
   where
     go : (t : Bool) → eqb p a ≡ t → In p (if t l (a ∷ remove p l)) → (In p (remove p l) → ⊥) → ⊥
-    go true e h r = d .0 (subst (λ (x : ℕ). In x l) (eqb-true p a e) h)
+    go true e h r = f .1 (subst (λ (x : ℕ). In x l) (eqb-true p a e) h)
     go false e (inl q) r = eqb-false p a e q
     go false e (inr h) r = r h

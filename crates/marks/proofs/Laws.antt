@@ -25,7 +25,8 @@ use native.Mathlib.Decide.{ℕ-discrete}
 use native.Mathlib.Omega.{arith}
 use lib.Dec.{eqb}
 use borrow.Author.Tests.{eq-eqb, ne-eqb, lt-ltb, ltb-true, eqb-false, not-false}
-use Rattle.base.specs.Base.{if, In, is-in}
+use Rattle.base.specs.Base.{if, In, is-in, Few}
+use Rattle.base.proofs.Few.{few-length}
 use Rattle.base.proofs.Lists.{in-is-in, is-in-in}
 use Rattle.answer.specs.Answer.{Answer, done, refused, By}
 use Rattle.answer.specs.Cause.{Cause, cause, lowest}
@@ -39,7 +40,7 @@ use Rattle.marks.specs.declared.Marks.{Marks}
 use Rattle.marks.specs.declared.MarkCall.{MarkCall}
 use Rattle.marks.specs.declared.MarkCall.the-variants.{PlaceChip, LiftChip, PlaceCard, LiftCard}
 use Rattle.marks.proofs.Tests.{both, neither, places-test, lawful-range, lawful-two, tests-lawful}
-use Rattle.marks.proofs.Few.{Few, places-few, places-count, places-back, few-lawful, kept, added, added-in, removed, removed-out}
+use Rattle.marks.proofs.Few.{places-few, places-count, places-back, few-lawful, kept, added, added-in, removed, removed-out}
 
 -- ---- a record is lawful exactly when no cause is given
 pub lawful-cause : (m : Marks) → LawfulMarks m → marks-cause m ≡ 0
@@ -86,7 +87,7 @@ unfolding marks-in marks-cause in-range two-equal
 marks-in-other b h = simp (ne-eqb (length b) 4 h)
 
 -- ---- the marked chips of a lawful record
-pub few-chips : (m : Marks) → LawfulMarks m → Few (marked-chips m)
+pub few-chips : (m : Marks) → LawfulMarks m → Few 2 (marked-chips m)
 few-chips m l = places-few (m .count) (m .first) (m .second) (places-test l) (l .differ)
 
 pub chips-counted : (m : Marks) → LawfulMarks m → length (marked-chips m) ≡ m .count
@@ -134,11 +135,11 @@ pub mark-can : (m : Marks) (c : MarkCall) → Can m c → mark-cause m c ≡ 0
 mark-can m c h = within m c (h .lawful) (h .asked) ∙ simp (h .new, h .room, h .there)
 
 -- ---- a call that is done leaves a lawful record
-unmarked : (m : Marks) (p : ℕ) → is-marked m p ≡ false → In p (marked-chips m) → ⊥
+pub unmarked : (m : Marks) (p : ℕ) → is-marked m p ≡ false → In p (marked-chips m) → ⊥
 unfolding is-marked
 unmarked m p h i = true≢false (sym (in-is-in p (marked-chips m) i) ∙ h)
 
-placed-few : (m : Marks) (p : ℕ) → Can m (PlaceChip p) → Few (marked-chips m ++ (p ∷ []))
+pub placed-few : (m : Marks) (p : ℕ) → Can m (PlaceChip p) → Few 2 (marked-chips m ++ (p ∷ []))
 placed-few m p h =
     let room : length (marked-chips m) < 2 = omega (arith, chips-counted m (h .lawful), h .lawful .count, eqb-false (m .count) 2 (h .room)) in
     added p (marked-chips m) (few-chips m (h .lawful)) room (ltb-true p 45 (h .asked)) (unmarked m p (h .new))
@@ -148,7 +149,7 @@ unfolding marked
 marked-lawful m (PlaceChip p) e = let h = can m (PlaceChip p) e in few-lawful (m .card) (marked-chips m ++ (p ∷ [])) (h .lawful .card) (placed-few m p h)
 marked-lawful m (LiftChip p) e =
     let l = can m (LiftChip p) e .lawful in
-    few-lawful (m .card) (remove p (marked-chips m)) (l .card) (removed p (marked-chips m) (few-chips m l))
+    few-lawful (m .card) (remove p (marked-chips m)) (l .card) (removed 2 p (marked-chips m) (few-chips m l))
 marked-lawful m (PlaceCard j) e =
     let h = can m (PlaceCard j) e in
     let l = h .lawful in
@@ -198,7 +199,7 @@ again (LiftChip p) = 9
 again (PlaceCard j) = 7
 again LiftCard = 9
 
-not-in : (p : ℕ) (l : List ℕ) → (In p l → ⊥) → is-in p l ≡ false
+pub not-in : (p : ℕ) (l : List ℕ) → (In p l → ⊥) → is-in p l ≡ false
 not-in p l h = go (is-in p l) refl
   where
     go : (t : Bool) → is-in p l ≡ t → t ≡ false
@@ -210,14 +211,14 @@ placed-in : (m : Marks) (p : ℕ) → Can m (PlaceChip p) → is-marked (marked 
 unfolding marked is-marked
 placed-in m p h =
     let l = marked-chips m ++ (p ∷ []) in
-    ap (is-in p) (kept (m .card) l (placed-few m p h .few)) ∙ in-is-in p l (added-in p (marked-chips m))
+    ap (is-in p) (kept (m .card) l (few-length 2 l (placed-few m p h))) ∙ in-is-in p l (added-in p (marked-chips m))
 
 lifted-out : (m : Marks) (p : ℕ) → LawfulMarks m → is-marked (marked m (LiftChip p)) p ≡ false
 unfolding marked is-marked
 lifted-out m p l =
     let f = few-chips m l in
     let r = remove p (marked-chips m) in
-    ap (is-in p) (kept (m .card) r (removed p (marked-chips m) f .few)) ∙ not-in p r (removed-out p (marked-chips m) (f .differ))
+    ap (is-in p) (kept (m .card) r (few-length 2 r (removed 2 p (marked-chips m) f))) ∙ not-in p r (removed-out 2 p (marked-chips m) f)
 
 card-placed : (m : Marks) (j : ℕ) → card-is (marked m (PlaceCard j) .card) j ≡ true
 unfolding marked

@@ -2,5 +2,6 @@ pub mod Chips
 pub mod Tests
 pub mod Few
 pub mod Laws
+pub mod Plain
 pub mod Tied
 pub mod Witnesses

@@ -34,12 +34,12 @@ card-test : (card : CardMark) → CardInRange card → card-in-range card ≡ tr
 card-test None h = refl
 card-test (Card j) h = lt-ltb j 5 h
 
-record Places (n a b : ℕ) : Type 0 where
+record PlacesInRange (n a b : ℕ) : Type 0 where
   count : n ≤ 2
   first : ((1 ≤ n) × (a < 45)) ⊎ ((n ≡ 0) × (a ≡ 255))
   second : ((n ≡ 2) × (b < 45)) ⊎ ((n < 2) × (b ≡ 255))
 
-places-fact : (n a b : ℕ) → places-in-range n a b ≡ true → Places n a b
+places-fact : (n a b : ℕ) → places-in-range n a b ≡ true → PlacesInRange n a b
 places-fact zero a b e =
     let h = both _ _ e in
     record { count = omega arith; first = inr (refl, eqb-true a 255 (h .0)); second = inr (omega arith, eqb-true b 255 (h .1)) }

@@ -4,15 +4,18 @@
 --   mark-cause m c   the number of the refusal of the call c on the record m, 0 where nothing is refused
 --   marked m c       the record after it
 --   MarkDone         the contract
-use Prim.Native.Nat.{ℕ}
+--   MarkAccepted     in plain words, when a call is not refused; MarkLeaves: which marks stand after it
+use Prim.Native.Nat.{ℕ, _<_}
 use mathlib.Core.Path.{_≡_}
+use mathlib.Core.Logic.{_≢_, _↔_}
 use mathlib.Core.Bool.{Bool, true, false, _&&_, _||_, not}
 use mathlib.Core.List.{List, [], _∷_, _++_}
 use lib.Dec.{eqb, ltb}
-use Rattle.base.specs.Base.{if}
+use lib.ListN.{length}
+use Rattle.base.specs.Base.{if, In}
 use Rattle.answer.specs.Answer.{Answer, done, By}
 use Rattle.answer.specs.Cause.{Cause, cause, lowest}
-use Rattle.marks.specs.Marks.{marked-chips, in-range, two-equal, is-marked}
+use Rattle.marks.specs.Marks.{marked-chips, LawfulMarks, in-range, two-equal, is-marked}
 use Rattle.marks.specs.declared.CardMark.{CardMark}
 use Rattle.marks.specs.declared.CardMark.the-variants.{None, Card}
 use Rattle.marks.specs.declared.Marks.{Marks}
@@ -81,3 +84,24 @@ mark-cause m c =
 -- ---- the contract
 unfoldable pub MarkDone : Marks → MarkCall → Answer → Marks → Type 0
 MarkDone m c a m′ = By (mark-cause m c) a (m′ ≡ m) ((a ≡ done) × (m′ ≡ marked m c))
+
+-- ---- in plain words
+-- what may be asked of a lawful record
+abbrev pub MayAsk : Marks → MarkCall → Type 0
+MayAsk m (PlaceChip p) = (p < 45) × (In p (marked-chips m) → ⊥) × (length (marked-chips m) < 2)
+MayAsk m (LiftChip p) = In p (marked-chips m)
+MayAsk m (PlaceCard j) = (j < 5) × (m .card ≡ None)
+MayAsk m LiftCard = (j : ℕ) × (m .card ≡ Card j)
+
+abbrev pub MarkAccepted : Type 0
+MarkAccepted = (m : Marks) (c : MarkCall) → (mark-cause m c ≡ 0) ↔ (LawfulMarks m × MayAsk m c)
+
+-- the marks of m′ are those of m after the call, and no other mark has moved
+abbrev pub Leaves : Marks → MarkCall → Marks → Type 0
+Leaves m (PlaceChip p) m′ = (m′ .card ≡ m .card) × (marked-chips m′ ≡ marked-chips m ++ (p ∷ []))
+Leaves m (LiftChip p) m′ = (m′ .card ≡ m .card) × ((q : ℕ) → In q (marked-chips m′) ↔ (In q (marked-chips m) × (q ≢ p)))
+Leaves m (PlaceCard j) m′ = (m′ .card ≡ Card j) × (marked-chips m′ ≡ marked-chips m)
+Leaves m LiftCard m′ = (m′ .card ≡ None) × (marked-chips m′ ≡ marked-chips m)
+
+abbrev pub MarkLeaves : Type 0
+MarkLeaves = (m : Marks) (c : MarkCall) → mark-cause m c ≡ 0 → Leaves m c (marked m c)

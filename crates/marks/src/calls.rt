@@ -11,14 +11,14 @@ ghost use Rattle.marks.specs.Marks.{in-range, two-equal, is-marked};
 ghost use Rattle.marks.specs.Mark.{of-chips, marked, card-is, some-card, asked-in-range, already, too-many, absent, mark-cause};
 ghost use Rattle.marks.specs.declared.MarkCall.the-variants.{PlaceChip, LiftChip};
 
-pub fn wide(x: u8) -> u32
+pub(crate) fn wide(x: u8) -> u32
     ensures { λ r. ⌜ r ≡ x ⌝ }
 {
     x as u32
 }
 
 // Whether the number p, however large, is that of a marked chip. A place past the count is not looked at.
-pub fn has_chip(m: Marks, p: u32) -> bool
+pub(crate) fn has_chip(m: Marks, p: u32) -> bool
     ensures { λ r. ⌜ r ≡ is-marked m p ⌝ }
 {
     let n = m.count;
@@ -112,13 +112,13 @@ fn twice(m: Marks, c: MarkCall) -> bool
 }
 
 // 0 where the call is not refused, else the number of its refusal: a chip that is marked already is 7 even where two are.
-pub fn mark_cause(m: Marks, c: MarkCall) -> u8
+pub(crate) fn mark_cause(m: Marks, c: MarkCall) -> u8
     ensures { λ r. ⌜ r ≡ mark-cause m c ⌝ }
 {
     lawful::lowest(outside(m, c), twice(m, c), too_many(m, c), absent(m, c))
 }
 
-pub fn no_chip(card: CardMark) -> Marks
+pub(crate) fn no_chip(card: CardMark) -> Marks
     ensures { λ r. ⌜ r ≡ of-chips card [] ⌝ }
 {
     Marks {
@@ -173,7 +173,7 @@ fn without_chip(m: Marks, p: u8) -> Marks
 }
 
 // The record after a call that nothing refuses: what is asked for is a position or a card, so it fits a byte.
-pub fn after(m: Marks, c: MarkCall) -> Marks
+pub(crate) fn after(m: Marks, c: MarkCall) -> Marks
     requires { ⌜ mark-cause m c ≡ 0 ⌝ }
     ensures { λ r. ⌜ r ≡ marked m c ⌝ }
 {

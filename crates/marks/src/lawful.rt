@@ -27,7 +27,7 @@ fn places_in_range(count: u8, first: u8, second: u8) -> bool
     }
 }
 
-pub fn in_range(m: Marks) -> bool
+pub(crate) fn in_range(m: Marks) -> bool
     ensures { λ r. ⌜ r ≡ in-range m ⌝ }
 {
     let card = m.card;
@@ -38,14 +38,14 @@ pub fn in_range(m: Marks) -> bool
 }
 
 // Only two chip marks: with fewer, an unused place says nothing.
-pub fn two_equal(m: Marks) -> bool
+pub(crate) fn two_equal(m: Marks) -> bool
     ensures { λ r. ⌜ r ≡ two-equal m ⌝ }
 {
     m.count == 2 && m.first == m.second
 }
 
 // Of causes that do or do not hold, the lowest number; 0 where none does.
-pub fn lowest(six: bool, seven: bool, eight: bool, nine: bool) -> u8
+pub(crate) fn lowest(six: bool, seven: bool, eight: bool, nine: bool) -> u8
     ensures { λ r. ⌜ r ≡ lowest (cause 6 six ∷ cause 7 seven ∷ cause 8 eight ∷ cause 9 nine ∷ []) ⌝ }
 {
     if six {

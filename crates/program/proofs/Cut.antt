@@ -21,7 +21,7 @@ use Rattle.marks.specs.declared.Marks.{Marks}
 use Rattle.bank.specs.Calls.{bad-bank, report-cause, ReportDone}
 use Rattle.bank.proofs.Done.{report-refused}
 use Rattle.lines.specs.Lines.{refused-line}
-use Rattle.program.specs.Program.{bank-of, marks-of, PrintsReport, Prints}
+use Rattle.program.specs.Program.{input-bank, input-marks, PrintsReport, Prints}
 use Rattle.program.proofs.Decided.{report-agrees}
 
 or-true : (s t : Bool) → t ≡ true → s || t ≡ true
@@ -45,12 +45,12 @@ cut input text p = pick (eq-zero-or-pos (length input - 46085))
         let l : length (take 46085 input) ≡ 46085 = simp length-take (omega arith) in
         let w = p .otherwise (omega arith) in
         let first = take 46085 input in
-        let four = refused-4 (bank-of first) (marks-of first) (simp length-drop (omega arith)) in
-        let e = report-agrees (bank-of first) (bank-of first) (bank-of first) (marks-of first) (w .0) (refused 4) (w .1) four in
-        subst (λ (a : Answer). PrintsReport (bank-of first) (marks-of first) a text) e (w .2)
+        let four = refused-4 (input-bank first) (input-marks first) (simp length-drop (omega arith)) in
+        let e = report-agrees (input-bank first) (input-bank first) (input-bank first) (input-marks first) (w .0) (refused 4) (w .1) four in
+        subst (λ (a : Answer). PrintsReport (input-bank first) (input-marks first) a text) e (w .2)
 
     pick : (length input - 46085 ≡ 0) ⊎ (0 < length input - 46085) → Prints input text
     pick (inl z) = subst (λ (l : List ℕ). Prints l text) (take-all 46085 input (omega arith)) p
     pick (inr z) =
-        let l : 46080 < length (bank-of input) = simp length-drop (omega arith) in
-        record { short = λ h. absurd (omega arith); otherwise = λ h. (refused 4, refused-4 (bank-of input) (marks-of input) l, only (omega arith)) }
+        let l : 46080 < length (input-bank input) = simp length-drop (omega arith) in
+        record { short = λ h. absurd (omega arith); otherwise = λ h. (refused 4, refused-4 (input-bank input) (input-marks input) l, only (omega arith)) }

@@ -1,71 +1,32 @@
 -- What is printed is decided: two texts of one input are equal, and the contract of `say` leaves nothing open.
 --
---   card-free                   what does not tell the card of "several" is the same without it
---   class-agrees, line-agrees   two readings of one block count as the same, and have the same line
---   totals-agree, texts-agree   two readings of each block of a bank: the totals, the lines
---   report-agrees               two reports of one bank under the same marks give the same answer
---   decided                     two texts of one input are equal
---   say-decided                 two outcomes of `say` on the same bytes are equal
+--   texts-agree     two readings of each block of a bank have the same lines
+--   report-agrees   two reports of one bank under the same marks give the same answer
+--   decided         two texts of one input are equal
+--   say-decided     two outcomes of `say` on the same bytes are equal
 use mathlib.Core.Path.{_≡_, refl, sym, ap, ap₂, _∙_, subst}
 use mathlib.Core.Logic.{_⊎_, inl, inr, ⊎-elim}
-use mathlib.Core.List.{List, [], _++_}
-use Prim.Native.Nat.{ℕ, zero, suc, _-_, _≤_, _<_}
+use mathlib.Core.List.{List, _++_}
+use Prim.Native.Nat.{ℕ, _-_, _≤_, _<_}
 use native.Mathlib.Nat.{eq-zero-or-pos}
 use native.Mathlib.Omega.{arith}
-use lib.Dec.{eqb}
 use lib.ListN.{length, drop}
-use Rattle.base.proofs.Tally.{tally-ext}
-use Rattle.answer.specs.Answer.{Answer, done, clean, in-chips, in-card, counted, refused, refused-card, but-card, By}
-use Rattle.code.specs.Labels.{built-in}
-use Rattle.marks.specs.Marks.{marked-chips}
+use Rattle.answer.specs.Answer.{Answer, done, clean, in-chips, in-card, counted, refused, refused-card}
 use Rattle.marks.specs.declared.Marks.{Marks}
-use Rattle.reading.specs.Reading.{ReadsUnder}
-use Rattle.reading.proofs.Agree.{reads-agree}
-use Rattle.bank.specs.Calls.{block, blocks, class, how-many, totals, report-cause, EachReads, ReportDone}
+use Rattle.bank.specs.Calls.{block, blocks, report-cause, EachReads, ReportDone}
+use Rattle.bank.proofs.Each.{told-alike, counts-agree}
 use Rattle.lines.specs.Lines.{block-line, totals-line, sound-line, count-line}
-use Rattle.program.specs.Program.{bank-of, marks-of, block-lines, PrintsReport, Prints, SayDone}
-use Rattle.program.proofs.Report.{Did}
+use Rattle.program.specs.Program.{input-bank, input-marks, block-lines, PrintsReport, Prints, SayDone}
 use Rattle.program.proofs.Blocks.{lines-agree}
 
--- what does not tell a card of "several" says the same of an answer without it
-card-free : {X : Type 0} (g : Answer → X) → ((n j : ℕ) → g (refused-card n j) ≡ g (refused-card n 0)) → (a : Answer) → g a ≡ g (but-card a)
-card-free g h done = refl
-card-free g h clean = refl
-card-free g h (in-chips n) = refl
-card-free g h (in-card j n) = refl
-card-free g h (counted v w x y z) = refl
-card-free g h (refused n) = refl
-card-free g h (refused-card n j) = h n j
-
-module _ (m : Marks) (b : List ℕ) (a a′ : Answer) (r : (x : List ℕ) × ReadsUnder m b [] a x) (r′ : (x : List ℕ) × ReadsUnder m b [] a′ x) where
-  same : but-card a ≡ but-card a′
-  same = reads-agree built-in (m .card) (marked-chips m) b [] a a′ (r .0) (r′ .0) (r .1) (r′ .1) .0
-
-  agrees : {X : Type 0} (g : Answer → X) → ((n j : ℕ) → g (refused-card n j) ≡ g (refused-card n 0)) → g a ≡ g a′
-  agrees g h = card-free g h a ∙ ap g same ∙ sym (card-free g h a′)
-
-  pub class-agrees : class a ≡ class a′
-  class-agrees = agrees class (λ n j. refl)
-
-  pub line-agrees : (k : ℕ) → block-line k a ≡ block-line k a′
-  line-agrees k = agrees (block-line k) (λ n j. refl)
-
-module _ (bank : List ℕ) (m : Marks) (f f′ : ℕ → Answer) (r : EachReads (block bank) (blocks bank) m f) (r′ : EachReads (block bank) (blocks bank) m f′) where
-  totals-agree : totals f (blocks bank) ≡ totals f′ (blocks bank)
-  totals-agree = rw (each 0, each 1, each 2, each 3, each 4)
-    where
-      each : (i : ℕ) → how-many f (blocks bank) i ≡ how-many f′ (blocks bank) i
-      each i = tally-ext (blocks bank) _ _ (λ k l. ap (λ c. eqb c i) (class-agrees m (block bank k) (f k) (f′ k) (r k l) (r′ k l)))
-
-  pub texts-agree : block-lines f (blocks bank) ≡ block-lines f′ (blocks bank)
-  texts-agree = lines-agree f f′ (blocks bank) (λ k l. line-agrees m (block bank k) (f k) (f′ k) (r k l) (r′ k l) k)
+pub texts-agree : (bank : List ℕ) (m : Marks) (f f′ : ℕ → Answer) → EachReads (block bank) (blocks bank) m f → EachReads (block bank) (blocks bank) m f′
+    → block-lines f (blocks bank) ≡ block-lines f′ (blocks bank)
+texts-agree bank m f f′ r r′ =
+    lines-agree f f′ (blocks bank) (λ k l. told-alike (block-line k) (λ n j. refl) m (block bank k) (f k) (f′ k) (r k l) (r′ k l))
 
 pub report-agrees : (bank bank′ bank″ : List ℕ) (m : Marks) (a a′ : Answer) → ReportDone bank m a bank′ → ReportDone bank m a′ bank″ → a ≡ a′
-report-agrees bank bank′ bank″ m a a′ d d′ = go (report-cause (length bank) m) (d .answer) (d′ .answer)
-  where
-    go : (c : ℕ) → By c a (Unit {0}) (Did bank m a) → By c a′ (Unit {0}) (Did bank m a′) → a ≡ a′
-    go zero b b′ = b .2 ∙ totals-agree bank m (b .0) (b′ .0) (b .1) (b′ .1) ∙ sym (b′ .2)
-    go (suc c) b b′ = b .0 ∙ sym (b′ .0)
+report-agrees bank bank′ bank″ m a a′ d d′ =
+    counts-agree (block bank) (blocks bank) m (report-cause (length bank) m) a a′ (d .answer) (d′ .answer)
 
 one-text : (bank : List ℕ) (m : Marks) (a : Answer) (t u : List ℕ) → PrintsReport bank m a t → PrintsReport bank m a u → t ≡ u
 one-text bank m (refused n) t u p q = p ∙ sym q
@@ -87,9 +48,9 @@ decided input t u p q = ⊎-elim (λ z. long (omega arith)) (λ z. p .short (ome
     long h =
         let g = p .otherwise h in
         let k = q .otherwise h in
-        let e : g .0 ≡ k .0 = report-agrees (bank-of input) (bank-of input) (bank-of input) (marks-of input) (g .0) (k .0) (g .1) (k .1) in
-        one-text (bank-of input) (marks-of input) (k .0) t u
-        (subst (λ a. PrintsReport (bank-of input) (marks-of input) a t) e (g .2)) (k .2)
+        let e : g .0 ≡ k .0 = report-agrees (input-bank input) (input-bank input) (input-bank input) (input-marks input) (g .0) (k .0) (g .1) (k .1) in
+        one-text (input-bank input) (input-marks input) (k .0) t u
+        (subst (λ a. PrintsReport (input-bank input) (input-marks input) a t) e (g .2)) (k .2)
 
 pub say-decided : (input out : List ℕ) (n n′ : ℕ) (i i′ o o′ : List ℕ) → SayDone input out n i o → SayDone input out n′ i′ o′ → (n ≡ n′) × (i ≡ i′) × (o ≡ o′)
 say-decided input out n n′ i i′ o o′ d d′ = pick (eq-zero-or-pos (16384 - length out))

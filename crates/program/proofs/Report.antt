@@ -2,7 +2,6 @@
 --
 --   fine            a bank that is not refused has at most 46,080 bytes, and its marks are lawful
 --   small-cause     the number of a refusal is at most 7
---   Did             what a report does that is not refused
 --   counted-cause   a report that counts is not refused
 --   refused-cause   a refused report says the number of its cause
 use mathlib.Core.Path.{_≡_, refl, ap}
@@ -17,7 +16,7 @@ use Rattle.answer.specs.Cause.{cause, lowest}
 use Rattle.answer.proofs.Causes.{Holds, lowest-is, none-holds}
 use Rattle.marks.specs.Marks.{marks-causes, marks-cause}
 use Rattle.marks.specs.declared.Marks.{Marks}
-use Rattle.bank.specs.Calls.{bad-bank, size-causes, report-cause, ReportDone, EachReads, block, blocks, totals}
+use Rattle.bank.specs.Calls.{bad-bank, size-causes, report-cause, ReportDone, CountsEach, block, blocks}
 use Rattle.bank.proofs.Causes.{sized}
 
 pub fine : (n : ℕ) (m : Marks) → report-cause n m ≡ 0 → (n ≤ 46080) × (marks-cause m ≡ 0)
@@ -37,21 +36,17 @@ small-cause n m = pick (report-cause n m) (lowest-is (size-causes n ++ marks-cau
     pick c (inr (inr (inr (inl h)))) = omega (arith, h .0)
     pick c (inr (inr (inr (inr h)))) = absurd h
 
--- what a report does that is not refused
-abbrev pub Did : List ℕ → Marks → Answer → Type 0
-Did bank m a = (f : ℕ → Answer) × EachReads (block bank) (blocks bank) m f × (a ≡ totals f (blocks bank))
-
 module _ (bank bank′ : List ℕ) (m : Marks) where
   pub counted-cause : (v w x y z : ℕ) → ReportDone bank m (counted v w x y z) bank′ → report-cause (length bank) m ≡ 0
   counted-cause v w x y z d = go (report-cause (length bank) m) (d .answer)
     where
-      go : (c : ℕ) → By c (counted v w x y z) (Unit {0}) (Did bank m (counted v w x y z)) → c ≡ 0
+      go : (c : ℕ) → By c (counted v w x y z) (Unit {0}) (CountsEach (block bank) (blocks bank) m (counted v w x y z)) → c ≡ 0
       go zero b = refl
       go (suc c) b = let z : _≡_ {A = ℕ} 0 1 = cc (b .0) in absurd (omega arith)
 
   pub refused-cause : (n : ℕ) → ReportDone bank m (refused n) bank′ → n ≡ report-cause (length bank) m
   refused-cause n d = go (report-cause (length bank) m) (d .answer)
     where
-      go : (c : ℕ) → By c (refused n) (Unit {0}) (Did bank m (refused n)) → n ≡ c
+      go : (c : ℕ) → By c (refused n) (Unit {0}) (CountsEach (block bank) (blocks bank) m (refused n)) → n ≡ c
       go zero b = let z : _≡_ {A = ℕ} 0 1 = cc (b .2) in absurd (omega arith)
       go (suc c) b = cc (b .0)

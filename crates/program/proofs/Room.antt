@@ -20,11 +20,11 @@ use Rattle.marks.specs.declared.CardMark.the-variants.{None, Card}
 use Rattle.marks.specs.declared.Marks.{Marks}
 use Rattle.marks.proofs.Laws.{cause-lawful}
 use Rattle.reading.specs.Reading.{OnCard, ReadsUnder}
-use Rattle.bank.specs.Calls.{block, blocks, how-many, report-cause, EachReads, ReportDone}
+use Rattle.bank.specs.Calls.{block, blocks, how-many, report-cause, EachReads, CountsEach, ReportDone}
 use Rattle.lines.specs.Lines.{count-line, totals-line, sound-line}
 use Rattle.lines.proofs.Lengths.{Small, count-length, block-length, totals-length, sound-length, refused-length}
-use Rattle.program.specs.Program.{bank-of, marks-of, block-lines, bank-text, PrintsReport, Prints}
-use Rattle.program.proofs.Report.{Did, fine, small-cause, counted-cause, refused-cause}
+use Rattle.program.specs.Program.{input-bank, input-marks, block-lines, bank-text, PrintsReport, Prints}
+use Rattle.program.proofs.Report.{fine, small-cause, counted-cause, refused-cause}
 
 on-card : (c : CardMark) (j : ℕ) (ps b x : List ℕ) → CardInRange c → OnCard c j ps b x → j < 10
 on-card None j ps b x r o = omega (arith, o .0)
@@ -76,7 +76,8 @@ report-length bank m (refused n) text d p =
     subst (λ (t : List ℕ). length t ≤ 16384) (sym p) (le-trans l (omega arith))
 report-length bank m (counted v w x y z) text d p =
     let e = counted-cause bank bank m v w x y z d in
-    let t = by-accepted (report-cause (length bank) m) (counted v w x y z) (Unit {0}) (Did bank m (counted v w x y z)) e (d .answer) in
+    let a = counted v w x y z in
+    let t = by-accepted (report-cause (length bank) m) a (Unit {0}) (CountsEach (block bank) (blocks bank) m a) e (d .answer) in
     let most : (u i : ℕ) → u ≡ how-many (t .0) (blocks bank) i → u ≤ blocks bank = λ u i q. at-most (blocks bank) _ u q in
     subst (λ (t : List ℕ). length t ≤ 16384) (sym (p .2))
     (bank-length bank m (p .0) v w x y z e (p .1)
@@ -90,6 +91,6 @@ report-length bank m (refused-card n j) text d p = absurd p
 pub text-length : (input text : List ℕ) → Prints input text → length text ≤ 16384
 text-length input text p =
     ⊎-elim
-    (λ z. let w = p .otherwise (omega arith) in report-length (bank-of input) (marks-of input) (w .0) text (w .1) (w .2))
+    (λ z. let w = p .otherwise (omega arith) in report-length (input-bank input) (input-marks input) (w .0) text (w .1) (w .2))
     (λ z. subst (λ (t : List ℕ). length t ≤ 16384) (sym (p .short (omega arith))) (le-trans (refused-length 6 (omega arith)) (omega arith)))
     (eq-zero-or-pos (4 - length input))

@@ -24,7 +24,7 @@ use Rattle.bank.specs.declared.Totals.{Totals}
 use Rattle.lines.specs.Lines.{refused-line}
 use Rattle.lines.specs.Put.{Put}
 use Rattle.lines.proofs.Pieces.{whole}
-use Rattle.program.specs.Program.{bank-of, marks-of, bank-text, PrintsReport, Prints, SayDone}
+use Rattle.program.specs.Program.{input-bank, input-marks, bank-text, PrintsReport, Prints, SayDone}
 use Rattle.program.specs.Parts.{BankPut}
 use Rattle.program.proofs.Report.{fine, counted-cause}
 use Rattle.program.proofs.Room.{text-length}
@@ -33,7 +33,7 @@ use Rattle.program.proofs.Room.{text-length}
 abbrev pub lent : List ℕ → List ℕ
 lent input = take (length input - 4) (drop 4 input)
 
-pub after-marks : (input : List ℕ) → lent input ≡ bank-of input
+pub after-marks : (input : List ℕ) → lent input ≡ input-bank input
 after-marks input = take-all (length input - 4) (drop 4 input) (simp length-drop (omega arith))
 
 pub say-nothing : (input out : List ℕ) → length out < 16384 → SayDone input out 0 input out
@@ -52,15 +52,15 @@ module _ (input out : List ℕ) (big : 16384 ≤ length out) where
 pub record Found (input out : List ℕ) (m : Marks) (bank : List ℕ) (a : Answer) : Type 0 where
   pub big : 16384 ≤ length out
   pub long : 4 ≤ length input
-  pub marks : m ≡ marks-of input
-  pub after : bank ≡ bank-of input
+  pub marks : m ≡ input-marks input
+  pub after : bank ≡ input-bank input
   pub report : ReportDone bank m a bank
 
 say-report : (input out : List ℕ) (m : Marks) (bank : List ℕ) (a : Answer) (text : List ℕ) (k : ℕ) (out′ : List ℕ) → Found input out m bank a
     → PrintsReport bank m a text → Put text out 0 k out′ → SayDone input out k input out′
 say-report input out m bank a text k out′ r p q =
     let both =
-    subst (λ (b : List ℕ). ReportDone b (marks-of input) a b × PrintsReport b (marks-of input) a text) (r .after)
+    subst (λ (b : List ℕ). ReportDone b (input-marks input) a b × PrintsReport b (input-marks input) a text) (r .after)
     (subst (λ (n : Marks). ReportDone bank n a bank × PrintsReport bank n a text) (r .marks) (r .report, p))
     in
     say-text input out (r .big) text k out′ (record { short = λ h. absurd (omega (arith, r .long)); otherwise = λ _. (a, both .0, both .1) }) q

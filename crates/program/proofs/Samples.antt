@@ -1,15 +1,18 @@
--- Texts of banks whose readings are given, by computation.
+-- Texts of banks whose readings are given, and of inputs that are refused, by computation.
 --
 --   sample   the output of document 01, "The bank program", in full
 --   order    a line for each block that is not clean, in turn, and the totals in theirs
+--   three-bytes, no-bank   too few bytes for the marks; marks, and no bank
 use mathlib.Core.Path.{_≡_, refl}
-use mathlib.Core.List.{List}
+use mathlib.Core.List.{List, [], _∷_}
 use Prim.Native.Nat.{ℕ, zero, suc}
+use native.Mathlib.Omega.{arith}
 use Rattle.base.specs.Base.{tally}
 use Rattle.answer.specs.Answer.{Answer, clean, in-chips, in-card, refused, refused-card}
-use Rattle.bank.specs.Calls.{how-many}
+use Rattle.marks.specs.Marks.{marks-in, of-bytes, in-range, two-equal}
+use Rattle.bank.specs.Calls.{how-many, report-cause}
 use Rattle.lines.specs.Lines.{ascii, digits-up-to, decimal, per-thousand}
-use Rattle.program.specs.Program.{bank-text}
+use Rattle.program.specs.Program.{bank-text, Prints}
 
 -- the text of n blocks that read so
 abbrev text : (ℕ → Answer) → ℕ → List ℕ
@@ -34,3 +37,12 @@ six (suc (suc (suc (suc (suc k))))) = in-chips 1
 order : text six 6 ≡ ascii "blocks 6\n0 none\n1 chips 2\n3 card 4 9\n4 none\n5 chips 1\nclean 1 chips 2 card 1 none 2 several 0\nsound 667\n"
 unfolding tally decimal digits-up-to per-thousand
 order = refl
+
+-- ---- inputs that are refused
+three-bytes : Prints (255 ∷ 0 ∷ 255 ∷ []) (ascii "refused 6\n")
+unfolding decimal digits-up-to
+three-bytes = record { short = λ h. refl; otherwise = λ h. absurd (omega arith) }
+
+no-bank : Prints (255 ∷ 0 ∷ 255 ∷ 255 ∷ []) (ascii "refused 4\n")
+unfolding decimal digits-up-to report-cause marks-in of-bytes in-range two-equal
+no-bank = record { short = λ h. absurd (omega arith); otherwise = λ h. (refused 4, record { kept = refl; answer = (refl, tt) }, refl) }

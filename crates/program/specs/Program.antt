@@ -1,6 +1,6 @@
 -- What the bank program prints, for every input. Document 01, "The bank program".
 --
---   marks-of, bank-of   the mark record in the first four bytes; the bank after them
+--   input-marks, input-bank   the mark record in the first four bytes; the bank after them
 --   block-lines f n     the lines of blocks 0 to n − 1, which read as f says
 --   bank-text           what is printed of n blocks, with their five totals
 --   PrintsReport        what is printed by the report's answer
@@ -17,11 +17,11 @@ use Rattle.bank.specs.Calls.{blocks, block, EachReads, ReportDone}
 use Rattle.lines.specs.Lines.{count-line, block-line, totals-line, sound-line, refused-line}
 
 -- "It reads standard input: 4 mark bytes, then a bank."
-abbrev pub marks-of : List ℕ → Marks
-marks-of input = marks-in (take 4 input)
+abbrev pub input-marks : List ℕ → Marks
+input-marks input = marks-in (take 4 input)
 
-abbrev pub bank-of : List ℕ → List ℕ
-bank-of input = drop 4 input
+abbrev pub input-bank : List ℕ → List ℕ
+input-bank input = drop 4 input
 
 -- "a line for each block that is not clean"
 abbrev pub block-lines : (ℕ → Answer) → ℕ → List ℕ
@@ -47,7 +47,7 @@ pub record Prints (input text : List ℕ) : Type 0 where
   -- "Under 4 bytes it prints only `refused 6`"
   pub short : length input < 4 → text ≡ refused-line 6
   pub otherwise : 4 ≤ length input
-      → (a : Answer) × ReportDone (bank-of input) (marks-of input) a (bank-of input) × PrintsReport (bank-of input) (marks-of input) a text
+      → (a : Answer) × ReportDone (input-bank input) (input-marks input) a (input-bank input) × PrintsReport (input-bank input) (input-marks input) a text
 
 -- an output under 16,384 bytes is left as it was; in any other the text stands at the front, and the rest is as before
 pub record SayDone (input out : List ℕ) (n : ℕ) (input′ out′ : List ℕ) : Type 0 where

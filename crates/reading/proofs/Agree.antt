@@ -2,18 +2,23 @@
 --
 --   one-kind      a corrected block has one kind
 --   reads-agree   two readings of one block under the same marks agree in the answer, but for that card, and in the output
+--   under-agree   the same under a mark record, with the built-in labels
 use mathlib.Core.Logic.{_≢_, _⊎_, inl, inr}
 use mathlib.Core.Path.{_≡_, refl, sym, ap, ap₂, _∙_, subst}
 use mathlib.Core.List.{List}
 use Prim.Native.Nat.{ℕ}
 use Rattle.base.proofs.Tests.{same}
 use Rattle.answer.specs.Answer.{Answer, done, clean, in-chips, in-card, counted, refused, refused-card, but-card}
+use Rattle.answer.proofs.Causes.{Agreed}
 use Rattle.code.specs.Block.{changes, OneMember, NoMember, TwoMembers}
+use Rattle.code.specs.Labels.{built-in}
+use Rattle.marks.specs.Marks.{marked-chips}
+use Rattle.marks.specs.declared.Marks.{Marks}
 use Rattle.marks.specs.declared.CardMark.{CardMark}
 use Rattle.marks.specs.declared.CardMark.the-variants.{None, Card}
 use Rattle.reading.specs.Allowed.{OfChipKind}
-use Rattle.reading.specs.Reading.{S, OnCard, Reads}
-use Rattle.reading.proofs.Facts.{apart, unchanged}
+use Rattle.reading.specs.Reading.{S, OnCard, Reads, ReadsUnder}
+use Rattle.reading.proofs.Facts.{apart, by-marked, unchanged}
 
 -- the card that a change not of the chip kind is told by
 one-card : (c : CardMark) (ps b x : List ℕ) (i j : ℕ) → (OfChipKind c ps b x → ⊥) → OnCard c i ps b x → OnCard c j ps b x → i ≡ j
@@ -22,7 +27,7 @@ one-card None ps b x i j n g h = pick (same i j)
   where
     pick : (i ≡ j) ⊎ (i ≢ j) → i ≡ j
     pick (inl q) = q
-    pick (inr q) = absurd (n (apart ps b x i j q (g .1) (h .1)))
+    pick (inr q) = absurd (n (by-marked ps b x (apart ps b x i j q (g .1) (h .1))))
 
 module _ (ls : List ℕ) (c : CardMark) (ps b out : List ℕ) where
   -- how a corrected block x is told
@@ -76,5 +81,8 @@ module _ (ls : List ℕ) (c : CardMark) (ps b out : List ℕ) where
   agree a a′ x x′ (several j t e) (none n e′) = absurd (n (t .0) (t .2))
   agree a a′ x x′ (several j t e) (several j′ t′ e′) = (refl, e ∙ sym e′)
 
-  pub reads-agree : (a a′ : Answer) (x x′ : List ℕ) → Reads ls c ps b out a x → Reads ls c ps b out a′ x′ → (but-card a ≡ but-card a′) × (x ≡ x′)
+  pub reads-agree : (a a′ : Answer) (x x′ : List ℕ) → Reads ls c ps b out a x → Reads ls c ps b out a′ x′ → Agreed a a′ x x′
   reads-agree a a′ x x′ h h′ = agree a a′ x x′ (outcome a x h) (outcome a′ x′ h′)
+
+pub under-agree : (m : Marks) (b out : List ℕ) (a a′ : Answer) (x x′ : List ℕ) → ReadsUnder m b out a x → ReadsUnder m b out a′ x′ → Agreed a a′ x x′
+under-agree m b out a a′ x x′ h h′ = reads-agree built-in (m .card) (marked-chips m) b out a a′ x x′ h h′

@@ -15,14 +15,14 @@ use native.Mathlib.Omega.{arith}
 use lib.Dec.{T, eqb}
 use lib.ListN.{length}
 use borrow.Author.Tests.{eqb-true, eqb-false, eq-eqb, ne-eqb}
-use Rattle.base.specs.Base.{In, is-in, tally}
+use Rattle.base.specs.Base.{In, is-in, tally, Few}
 use Rattle.base.proofs.Tests.{same, find}
 use Rattle.base.proofs.Lists.{in-is-in, is-in-in}
 use Rattle.base.proofs.Tally.{clash, tally-none, tally-one, tally-some, tally-two}
 use Rattle.answer.specs.Answer.{Answer, clean, in-chips, in-card, refused, refused-card}
 use Rattle.code.specs.Block.{byte, Block, Lawful, changes, OneMember, NoMember, TwoMembers}
 use Rattle.code.specs.Labels.{LabelSet}
-use Rattle.code.specs.Reach.{rules, Few, keep, Reached}
+use Rattle.code.specs.Reach.{rules, keep, Reached}
 use Rattle.code.proofs.Blocks.{same-block}
 use Rattle.code.proofs.Reach.{fits, closed, candidate-few, reached-few}
 use Rattle.marks.specs.Marks.{CardInRange}

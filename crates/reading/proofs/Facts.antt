@@ -2,10 +2,11 @@
 --
 --   chip-one     a member of S by a change of the chip kind is the only one: such damage never reads as several
 --   card-one     under a card mark S has at most one member
---   apart        what two cards reach alike lies in marked chips
+--   apart        what two cards reach alike lies in marked chips; by-marked: which is of the chip kind
 --   never-none   with two chip marks and no card mark S is never empty
 --   reaches      any card may be given with 11 that reaches a lawful block; reached-by: and only such a card
 --   unchanged    a change of no byte is of the chip kind
+--   card-told    under a card mark "card" is said where a byte of that card is changed, and with its number; chips-told: "chips" where none is
 --   clean-only   a lawful block is the one member of its S; clean-reads: it reads as clean; clean-lawful: only such a block does
 use mathlib.Core.Logic.{_≢_, _⊎_, inl, inr}
 use mathlib.Core.Path.{_≡_, refl, sym, ap, _∙_, subst}
@@ -15,22 +16,23 @@ use native.Mathlib.Omega.{arith}
 use lib.Dec.{T}
 use lib.ListN.{length, length-append}
 use borrow.Author.Tests.{ne-eqb}
-use Rattle.base.specs.Base.{In}
+use Rattle.base.proofs.Few.{few-length, few-more}
+use Rattle.base.specs.Base.{In, Few}
 use Rattle.base.proofs.Tests.{same}
-use Rattle.answer.specs.Answer.{clean}
+use Rattle.answer.specs.Answer.{clean, in-chips, in-card}
 use Rattle.code.specs.Block.{byte, Block, Lawful, DifferOnly, OneMember}
 use Rattle.code.specs.Labels.{LabelSet}
-use Rattle.code.specs.Reach.{rules, Few, keep, Reached}
-use Rattle.code.proofs.Few.{few-length, few-more, few-of, widen, between}
+use Rattle.code.specs.Reach.{rules, keep, Reached}
+use Rattle.code.proofs.Few.{few-of, widen, between}
 use Rattle.code.proofs.Reach.{fits, closed, reached-few}
 use Rattle.code.proofs.Closed.{fits-two}
 use Rattle.code.proofs.Unique.{alike}
 use Rattle.marks.specs.Marks.{CardInRange}
 use Rattle.marks.specs.declared.CardMark.{CardMark}
 use Rattle.marks.specs.declared.CardMark.the-variants.{None, Card}
-use Rattle.reading.specs.Allowed.{further, further-beside, ChipKind, CardKind, BesideKind, Allowed, OfChipKind}
+use Rattle.reading.specs.Allowed.{further, further-beside, ChipKind, CardKind, BesideKind, Allowed, CardChanged, OfChipKind}
 use Rattle.reading.specs.Reading.{S, Reaches, Reads}
-use Rattle.reading.proofs.Marked.{append-in}
+use Rattle.base.proofs.Lists.{append-in}
 use Rattle.reading.proofs.Searches.{covered, covers}
 
 -- the marked chips and the further ones are two at most; so are those of two changes beside a card
@@ -44,16 +46,18 @@ with-both zero h = omega arith
 with-both (suc u) h = omega arith
 
 -- ---- what two cards reach alike
-pub apart : (ps b x : List ℕ) (i j : ℕ) → i ≢ j → CardKind i ps b x → CardKind j ps b x → ChipKind ps b x
-apart ps b x i j ne g h = ([], omega arith, λ p l. go p (g p l) (h p l))
+pub apart : (ps b x : List ℕ) (i j : ℕ) → i ≢ j → CardKind i ps b x → CardKind j ps b x → DifferOnly (λ p. In p ps) b x
+apart ps b x i j ne g h p l = go (g p l) (h p l)
   where
-    go : (p : ℕ) → (byte b p ≡ byte x p) ⊎ ((p / 9 ≡ i) ⊎ In p ps) → (byte b p ≡ byte x p) ⊎ ((p / 9 ≡ j) ⊎ In p ps)
-        → (byte b p ≡ byte x p) ⊎ (In p ps ⊎ ⊥)
-    go p (inl e) o = inl e
-    go p (inr (inr m)) o = inr (inl m)
-    go p (inr (inl e)) (inl d) = inl d
-    go p (inr (inl e)) (inr (inr m)) = inr (inl m)
-    go p (inr (inl e)) (inr (inl d)) = absurd (ne (sym e ∙ d))
+    go : (byte b p ≡ byte x p) ⊎ ((p / 9 ≡ i) ⊎ In p ps) → (byte b p ≡ byte x p) ⊎ ((p / 9 ≡ j) ⊎ In p ps) → (byte b p ≡ byte x p) ⊎ In p ps
+    go (inl e) o = inl e
+    go (inr (inr m)) o = inr m
+    go (inr (inl e)) (inl d) = inl d
+    go (inr (inl e)) (inr (inr m)) = inr m
+    go (inr (inl e)) (inr (inl d)) = absurd (ne (sym e ∙ d))
+
+pub by-marked : (ps b x : List ℕ) → DifferOnly (λ p. In p ps) b x → ChipKind ps b x
+by-marked ps b x h = ([], omega arith, widen (λ p. In p ps) (λ p. In p ps ⊎ In p []) b x (λ p l i. inl i) h)
 
 -- ---- any card may be given with 11 that reaches a lawful block
 pub reaches : (ls ps b : List ℕ) (j : ℕ) → j < 5 → (y : List ℕ) → Reached ls j ps b y → Reaches ls ps b j
@@ -155,3 +159,11 @@ module _ (ls : List ℕ) (ok : LabelSet ls) (ps : List ℕ) (few : Few rules ps)
 
 pub clean-lawful : (ls : List ℕ) (c : CardMark) (ps b out out′ : List ℕ) → Reads ls c ps b out clean out′ → Lawful ls b
 clean-lawful ls c ps b out out′ h = subst (Lawful ls) (h .1) (h .0 .0 .lawful)
+
+-- ---- the kind under a card mark
+module _ (ls : List ℕ) (j : ℕ) (ps b out out′ : List ℕ) where
+  pub card-told : (i n : ℕ) → Reads ls (Card j) ps b out (in-card i n) out′ → (i ≡ j) × ((CardChanged j b out′ → ⊥) → ⊥)
+  card-told i n h = (h .3, λ none. h .2 (h .0 .0 .allowed, none))
+
+  pub chips-told : (n : ℕ) → Reads ls (Card j) ps b out (in-chips n) out′ → CardChanged j b out′ → ⊥
+  chips-told n h = h .3 .1

@@ -1,4 +1,3 @@
-pub mod Marked
 pub mod Searches
 pub mod Facts
 pub mod Agree

@@ -11,10 +11,11 @@ use Prim.Native.Nat.{ℕ, zero, suc, _/_, _<_, _≤_}
 use native.Mathlib.Decide.{decLt}
 use native.Mathlib.Omega.{arith}
 use lib.ListN.{length}
-use Rattle.base.specs.Base.{In}
+use Rattle.base.proofs.Few.{few-one}
+use Rattle.base.specs.Base.{In, Few}
 use Rattle.code.specs.Block.{Block, Lawful, DifferOnly}
-use Rattle.code.specs.Reach.{rules, Few, Reached}
-use Rattle.code.proofs.Few.{few-one, widen}
+use Rattle.code.specs.Reach.{rules, Reached}
+use Rattle.code.proofs.Few.{widen}
 use Rattle.marks.specs.declared.CardMark.the-variants.{None, Card}
 use Rattle.reading.specs.Allowed.{further, ChipKind, CardKind, BesideKind, Allowed}
 use Rattle.reading.specs.Reading.{S}

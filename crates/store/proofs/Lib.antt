@@ -3,3 +3,4 @@ pub mod Pairs
 pub mod Factors
 pub mod Storing
 pub mod Tied
+pub mod Decided

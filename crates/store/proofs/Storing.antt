@@ -26,7 +26,7 @@ use Rattle.field.proofs.Sum.{sum-ext, sum-below}
 use Rattle.field.proofs.Squares.{square-add}
 use Rattle.code.specs.Block.{byte, position, Block, Lawful, OneMember, Stored}
 use Rattle.code.specs.Labels.{built-in, LabelSet}
-use Rattle.code.proofs.Few.{few-two}
+use Rattle.base.proofs.Few.{few-two}
 use Rattle.code.proofs.Unique.{alike}
 use Rattle.store.specs.Steps.{chip-sum, Begun, in-row}
 use Rattle.store.specs.Store.{store-cause, StoreDone}

@@ -3,7 +3,7 @@
 --   byte-of-add      byte i of a sum of words is the sum of their bytes i
 --   byte-of-next     byte i + 1 is byte i of what is above the lowest byte
 --   byte-of-zero     every byte of 0 is 0
---   zero-bytes       a word of n bytes that are all 0 is 0
+--   same-bytes       words of n bytes that are the same are the same; zero-bytes: a word of n bytes that are all 0 is 0
 --   eight-bytes      eight bytes, each shifted to its place, as the code puts them together
 use mathlib.Core.Logic.{_≢_, _⊎_, inl, inr}
 use mathlib.Core.Path.{_≡_, sym, ap, _∙_, subst}
@@ -41,15 +41,19 @@ byte-of-next u i =
     let e : 8 * suc i ≡ 8 + 8 * i = omega arith in
     ap (λ (x : ℕ). x % 2 ^ 8) (ap (λ (k : ℕ). u / 2 ^ k) e ∙ sym (shr-shr u 8 (8 * i)))
 
-pub zero-bytes : (n u : ℕ) → u < 2 ^ (8 * n) → ((i : ℕ) → i < n → byte-of u i ≡ 0) → u ≡ 0
+pub same-bytes : (n u v : ℕ) → u < 2 ^ (8 * n) → v < 2 ^ (8 * n) → ((i : ℕ) → i < n → byte-of u i ≡ byte-of v i) → u ≡ v
 unfolding byte-of
-zero-bytes zero u h z = omega arith
-zero-bytes (suc n) u h z =
+same-bytes zero u v h g z = omega arith
+same-bytes (suc n) u v h g z =
     let e : 8 * suc n ≡ 8 * n + 8 = omega arith in
-    let above : u / 2 ^ 8 ≡ 0 =
-    zero-bytes n (u / 2 ^ 8) (shr-lt (8 * n) 8 (subst (λ (k : ℕ). u < 2 ^ k) e h)) (λ i l. sym (byte-of-next u i) ∙ z (suc i) (omega arith)) in
-    let lowest : u / 2 ^ 0 % 2 ^ 8 ≡ 0 = z 0 (omega arith) in
+    let above : u / 2 ^ 8 ≡ v / 2 ^ 8 =
+    same-bytes n (u / 2 ^ 8) (v / 2 ^ 8) (shr-lt (8 * n) 8 (subst (λ (k : ℕ). u < 2 ^ k) e h)) (shr-lt (8 * n) 8 (subst (λ (k : ℕ). v < 2 ^ k) e g))
+    (λ i l. sym (byte-of-next u i) ∙ z (suc i) (omega arith) ∙ byte-of-next v i) in
+    let lowest : u / 2 ^ 0 % 2 ^ 8 ≡ v / 2 ^ 0 % 2 ^ 8 = z 0 (omega arith) in
     omega arith
+
+pub zero-bytes : (n u : ℕ) → u < 2 ^ (8 * n) → ((i : ℕ) → i < n → byte-of u i ≡ 0) → u ≡ 0
+zero-bytes n u h z = same-bytes n u 0 h (pow-pos (8 * n)) (λ i l. z i l ∙ sym (byte-of-zero i))
 
 -- ---- one byte, shifted to place i
 module _ (x : ℕ) (h : x < 2 ^ 8) where

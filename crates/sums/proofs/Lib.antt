@@ -4,3 +4,5 @@ pub mod Cards
 pub mod Zero
 pub mod Fold
 pub mod Syndrome
+pub mod Decided
+pub mod Tied

@@ -26,7 +26,7 @@ use Rattle.field.proofs.Ring.{add-mul, zero-mul as zero-times}
 use Rattle.field.proofs.Sum.{sum-ext}
 use Rattle.field.proofs.Squares.{square-add}
 use Rattle.code.specs.Block.{byte}
-use Rattle.sums.specs.Words.{spread-of, spread, Small, at-point}
+use Rattle.sums.specs.Words.{spread-of, spread, at-point}
 
 -- one byte more
 pub one-more : (bytes words : ℕ → ℕ) (p b u : ℕ) → b ≡ bytes p → u ≡ sum p (λ q. bytes q * words q) → (b * words p) ⊕ u ≡ sum (p + 1) (λ q. bytes q * words q)
@@ -161,8 +161,9 @@ spread-below (suc n) x =
     let e : 2 ^ (8 * suc n) ≡ 2 ^ (8 * n) * 2 ^ 8 = ap (λ (k : ℕ). 2 ^ k) (let q : 8 * suc n ≡ 8 * n + 8 = omega arith in q) ∙ pow-add 2 (8 * n) 8 in
     omega (arith, e, spread-below n (x / 2), bit-lt x)
 
-pub spread-small : (labels : List ℕ) → Small (spread labels)
-spread-small labels p l = subst (λ (w : ℕ). w < 0x0101010101010102) (sym (spread-at labels p)) (omega (arith, spread-below 8 (byte labels p)))
+-- 255 times 0x0101010101010101 is the largest number of 64 digits
+pub spread-small : (labels : List ℕ) (p : ℕ) → getD (spread labels) p 0 < 0x0101010101010102
+spread-small labels p = subst (λ (w : ℕ). w < 0x0101010101010102) (sym (spread-at labels p)) (omega (arith, spread-below 8 (byte labels p)))
 
 -- a byte times a small word fits 64 bits
 pub word-fits : (b w : ℕ) → b < 2 ^ 8 → w < 0x0101010101010102 → b * w < 2 ^ 64

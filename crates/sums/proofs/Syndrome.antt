@@ -3,12 +3,13 @@
 --   once-of, squared-of   the word that gathers a block gives its label sums
 --   built-in-below        the built-in labels are bytes
 --   sums-are       what the code works out of a block, from that word, is the block's sums
---   in-part, part-at      one card's part of the words, as the code has it in figures, and among all
+--   in-part, no-part      one card's part of the words, as the code has it in figures, is its part of all; above card 4 there is none
 --   reduced-sums   what the word that gathers the rows by card j's words adds to the label sums makes them those of card j's reduced matrix
 use mathlib.Core.Path.{_≡_, sym, ap, ap₂, _∙_, subst}
 use mathlib.Core.List.{List}
-use Prim.Native.Nat.{ℕ, _+_, _*_, _^_, _<_}
-use lib.ListN.{getD, drop}
+use Prim.Native.Nat.{ℕ, _+_, _*_, _^_, _<_, _≤_}
+use native.Mathlib.Omega.{arith}
+use lib.ListN.{length, getD, take, drop, replicate, getD-replicate, List·getD-eq-default}
 use lib.Seq.{getD-take, getD-drop}
 use Rattle.field.specs.Field.{sum, _⊕_, _·_}
 use Rattle.field.proofs.Gf256.{field}
@@ -19,10 +20,10 @@ use Rattle.code.specs.Labels.{built-in, entry, LabelSet}
 use Rattle.code.proofs.Card.{row, red-sum}
 use Rattle.code.proofs.BuiltIn.{figures, in-figures, built-in-set}
 use Rattle.code.proofs.Blocks.{all-below, label-below}
-use Rattle.sums.specs.Words.{byte-of, spread-of, spread, card-part, gathered, at-point}
+use Rattle.sums.specs.Words.{byte-of, spread-of, spread, gathered, at-point}
 use Rattle.sums.specs.Sums.{rows-of, IsSums, ReducedSums}
 use Rattle.sums.specs.declared.Sums.{Sums}
-use Rattle.sums.proofs.Points.{once-at, squared-at, spread-at}
+use Rattle.sums.proofs.Points.{once-at, squared-at, spread-at, spread-length}
 use Rattle.sums.proofs.Cards.{nine-at}
 
 pub built-in-below : (p : ℕ) → byte built-in p < 2 ^ 8
@@ -49,11 +50,19 @@ module _ (labels b words : List ℕ) (hl : (p : ℕ) → byte labels p < 2 ^ 8) 
   }
 
 -- ---- one card's part of the words
-pub in-part : (r : List ℕ) (k j : ℕ) → j ≡ k → r ≡ card-part (spread figures) k → r ≡ card-part (spread built-in) j
-in-part r k j e h = h ∙ ap₂ (λ (l : List ℕ) (i : ℕ). card-part (spread l) i) (sym in-figures) (sym e)
+-- r holds card j's nine words
+abbrev Holds : List ℕ → ℕ → Type 0
+Holds r j = (i : ℕ) → i < 9 → getD r i 0 ≡ getD (spread built-in) (9 * j + i) 0
 
-pub part-at : (words : List ℕ) (j p : ℕ) → p < 9 → getD (card-part words j) p 0 ≡ getD words (9 * j + p) 0
-part-at words j p h = getD-take 9 (drop (9 * j) words) p 0 h ∙ getD-drop (9 * j) words p 0
+pub in-part : (r : List ℕ) (k j : ℕ) → j ≡ k → r ≡ take 9 (drop (9 * k) (spread figures)) → Holds r j
+in-part r k j e h i l =
+    ap (λ (v : List ℕ). getD v i 0) (h ∙ ap₂ (λ (ls : List ℕ) (c : ℕ). take 9 (drop (9 * c) (spread ls))) (sym in-figures) (sym e))
+    ∙ getD-take 9 (drop (9 * j) (spread built-in)) i 0 l ∙ getD-drop (9 * j) (spread built-in) i 0
+
+pub no-part : (j : ℕ) → 5 ≤ j → Holds (replicate 9 0) j
+no-part j h i l =
+    let all : length (spread built-in) ≡ 45 = spread-length built-in ∙ built-in-set .bytes .long in
+    getD-replicate 9 i 0 0 l ∙ sym (List·getD-eq-default (spread built-in) 0 {n = 9 * j + i} (omega (arith, all)))
 
 -- ---- the reduced sums
 module _ (labels b : List ℕ) (set : LabelSet labels) (block : Block b) (s : Sums) (known : IsSums labels b s) (j : ℕ) where

@@ -1,6 +1,7 @@
 -- All eleven sums are 0 exactly where the block is lawful.
 --
 --   or-zero                    "or" gives 0 exactly where its operands are 0, as the code asks it of the sums
+--   low-row                    byte i of the word is row i
 --   zero-lawful, lawful-zero   sums that are all 0 are those of a lawful block, and only those
 use mathlib.Core.Logic.{_≢_, _⊎_, inl, inr}
 use mathlib.Core.Path.{_≡_, refl, sym, ap, _∙_}
@@ -60,11 +61,11 @@ zero-lawful labels b s is z =
       squared = sym (is .squared) ∙ eqb-true (s .squared) 0 (second (eqb (s .once) 0) _ z₂);
     }
 
+pub low-row : (s : Sums) (i : ℕ) → i < 8 → byte-of (s .low) i ≡ byte (rows-of s) i
+low-row s i l = nine-at (byte-of (s .low)) (s .high) (λ i x. i < 8 → byte-of (s .low) i ≡ x) (λ i h g. refl) (λ g. absurd (omega arith)) i (omega arith) l
+
 pub lawful-zero : (labels b : List ℕ) (s : Sums) → IsSums labels b s → Lawful labels b → all-zero s ≡ true
 lawful-zero labels b s is law =
-    let low : s .low ≡ 0 = zero-bytes 8 (s .low) (is .eight) (λ i l. low-row i l ∙ is .rows i (omega arith) ∙ law .chips i (omega arith)) in
+    let low : s .low ≡ 0 = zero-bytes 8 (s .low) (is .eight) (λ i l. low-row s i l ∙ is .rows i (omega arith) ∙ law .chips i (omega arith)) in
     let high : s .high ≡ 0 = is .rows 8 (omega arith) ∙ law .chips 8 (omega arith) in
     rw (low, high, is .once ∙ law .once, is .squared ∙ law .squared)
-  where
-    low-row : (i : ℕ) → i < 8 → byte-of (s .low) i ≡ byte (rows-of s) i
-    low-row i l = nine-at (byte-of (s .low)) (s .high) (λ i x. i < 8 → byte-of (s .low) i ≡ x) (λ i h g. refl) (λ g. absurd (omega arith)) i (omega arith) l

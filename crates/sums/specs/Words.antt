@@ -3,15 +3,13 @@
 --   byte-of u i       byte i of the word u, from the lowest
 --   spread-of n x     the n lowest binary digits of x, one to a byte of a word
 --   spread labels     the labels so
---   Small words       each fits into 64 bits when it is multiplied by a byte
---   card-part         the nine words of card j
 --   gathered          the sum of byte times word, over the nine bytes from a place on and card j's words; of spread labels, byte k gathers the
 --                     bytes whose label has digit k
 --   at-point c n u    the n bytes of u as a polynomial's coefficients, the lowest first, at the point c of the field
 --   reduced v         the remainder of a polynomial of degree 21 at most by the field's modulus
 use mathlib.Core.List.{List, [], _∷_}
-use Prim.Native.Nat.{ℕ, zero, suc, _+_, _*_, _/_, _%_, _^_, _<_}
-use lib.ListN.{getD, length, take, drop}
+use Prim.Native.Nat.{ℕ, zero, suc, _+_, _*_, _/_, _%_, _^_}
+use lib.ListN.{getD}
 use Rattle.field.specs.Field.{_⊕_, _·_, sum, remainder}
 use Rattle.code.specs.Block.{byte}
 
@@ -25,13 +23,6 @@ spread-of (suc n) x = spread-of n (x / 2) * 2 ^ 8 + x % 2
 abbrev pub spread : List ℕ → List ℕ
 spread [] = []
 spread (x ∷ labels) = spread-of 8 x ∷ spread labels
-
--- 255 times 0x0101010101010101 is the largest number of 64 digits
-abbrev pub Small : List ℕ → Type 0
-Small words = (p : ℕ) → p < length words → getD words p 0 < 0x0101010101010102
-
-abbrev pub card-part : List ℕ → ℕ → List ℕ
-card-part words j = take 9 (drop (9 * j) words)
 
 unfoldable pub gathered : List ℕ → ℕ → List ℕ → ℕ → ℕ
 gathered bytes at words j = sum 9 (λ i. byte bytes (at + i) * getD words (9 * j + i) 0)

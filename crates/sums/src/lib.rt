@@ -12,7 +12,7 @@ ghost use Rattle.field.specs.Field.{sum};
 ghost use Rattle.code.specs.Block.{byte, position};
 ghost use Rattle.code.specs.Labels.{built-in};
 ghost use Rattle.sums.specs.Words.{byte-of, spread, gathered, at-point, reduced};
-ghost use Rattle.sums.specs.Sums.{rows-of, all-zero, BlockSums};
+ghost use Rattle.sums.specs.Sums.{rows-of, all-zero, BlockWord, BlockSums};
 
 mod words;
 
@@ -33,8 +33,8 @@ fn wide(x: u8) -> u64
 // ---- the gathered word
 
 // Nine bytes from a place on, each times its word of card j, summed: byte k is the sum of the bytes whose label has digit k.
-pub fn gather_card(bytes: &[u8], at: usize, j: u8) -> u64
-    requires { ⌜ (at + 9 ≤ length (now bytes)) × (j < 5) ⌝ }
+fn gather_card(bytes: &[u8], at: usize, j: u8) -> u64
+    requires { ⌜ at + 9 ≤ length (now bytes) ⌝ }
     ensures { λ u. ⌜ u ≡ gathered (now (bytes .entry)) at (spread built-in) j ⌝ }
 {
     let own = words::card_words(j);
@@ -47,8 +47,15 @@ pub fn gather_card(bytes: &[u8], at: usize, j: u8) -> u64
     u
 }
 
+// The rows, each times its word of card j, summed.
+pub fn card_word(rows: [u8; 9], j: u8) -> u64
+    ensures { λ u. ⌜ u ≡ gathered rows 0 (spread built-in) j ⌝ }
+{
+    gather_card(&rows, 0, j)
+}
+
 // The five cards' together. Each card is a call of its own, so that its words are constants there.
-pub fn gather(b: &[u8]) -> u64
+fn gather_cards(b: &[u8]) -> u64
     requires { ⌜ length (now b) ≡ 45 ⌝ }
     ensures { λ u. ⌜ u ≡ sum 45 (λ p. byte (now (b .entry)) p * getD (spread built-in) p 0) ⌝ }
 {
@@ -57,6 +64,16 @@ pub fn gather(b: &[u8]) -> u64
         ^ gather_card(b, 18, 2)
         ^ gather_card(b, 27, 3)
         ^ gather_card(b, 36, 4)
+}
+
+// The word that both label sums of 45 bytes come from; of any other length 0.
+pub fn gather(b: &[u8]) -> u64
+    ensures { λ u. ⌜ BlockWord (now (b .entry)) u (now (b .exit)) ⌝ }
+{
+    if b.len() != 45 {
+        return 0;
+    }
+    gather_cards(b)
 }
 
 // The remainder of a polynomial of degree 21 at most: q times the modulus x ^ 8 + x ^ 4 + x ^ 3 + x ^ 2 + 1 is taken off. The modulus goes into
@@ -145,7 +162,7 @@ pub fn of_block(block: &[u8]) -> Sums
             squared: 0,
         };
     }
-    let u = gather(block);
+    let u = gather_cards(block);
     let low = low_rows(block);
     let high = last_row(block);
     let once = at_x(u);

@@ -16,15 +16,15 @@ use native.Mathlib.Omega.{arith}
 use lib.Dec.{T, T-not, eqb, eqb→eq, ltb, ltb→lt}
 use lib.ListN.{length, take}
 use borrow.Author.Tests.{eqb-false}
-use Rattle.base.specs.Base.{In, is-in}
+use Rattle.base.specs.Base.{In, is-in, Few}
 use Rattle.base.proofs.Tests.{either, either-cases, every, every-at}
 use Rattle.base.proofs.Lists.{in-is-in, is-in-in}
 use Rattle.base.proofs.Tally.{clash}
 use Rattle.answer.specs.Answer.{in-chips, in-card}
 use Rattle.field.specs.Field.{sum, _·_}
-use Rattle.code.specs.Block.{byte, position, Block, DifferOnly, Stored, changes, TwoMembers}
+use Rattle.code.specs.Block.{byte, position, Block, DifferOnly, Stored, changes, TwoMembers, zeros}
 use Rattle.code.specs.Labels.{built-in}
-use Rattle.code.specs.Reach.{rules, Few, keep, Reached}
+use Rattle.code.specs.Reach.{rules, keep, Reached}
 use Rattle.code.proofs.BuiltIn.{figures, in-figures, built-in-set}
 use Rattle.code.proofs.Reach.{fits, closed, candidate-few, reached-few}
 use Rattle.code.proofs.Members.{zero-stored}
@@ -33,7 +33,7 @@ use Rattle.reading.specs.Allowed.{further, further-beside, ChipKind}
 use Rattle.reading.specs.Reading.{S, Reaches}
 use Rattle.reading.proofs.Searches.{covered, covers}
 use Rattle.reading.proofs.Facts.{chip-one, card-one}
-use Rattle.table.specs.Table.{zeros, Told}
+use Rattle.table.specs.Table.{Told}
 use Rattle.table.specs.Table.Told.{corrected, none, several, several-every-card-fits}
 use Rattle.table.proofs.Settled.{Exactly, one-answer, two-members, every-card}
 

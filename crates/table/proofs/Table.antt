@@ -12,14 +12,14 @@ use Prim.Native.Nat.{ℕ, _≤_}
 use native.Mathlib.Omega.{arith}
 use lib.Dec.{T, ltb}
 use lib.ListN.{length}
-use Rattle.base.specs.Base.{In, tally}
+use Rattle.base.specs.Base.{In, tally, Few}
 use Rattle.base.proofs.Tests.{every}
 use Rattle.answer.specs.Answer.{clean}
 use Rattle.field.specs.Field.{sum, _⊕_, polynomial-product, remainder, product}
 use Rattle.field.proofs.Squares.{squared}
-use Rattle.code.specs.Block.{byte, Block, changes}
+use Rattle.code.specs.Block.{byte, Block, changes, zeros}
 use Rattle.code.specs.Labels.{built-in}
-use Rattle.code.specs.Reach.{rules, Few, keep}
+use Rattle.code.specs.Reach.{rules, keep}
 use Rattle.code.proofs.BuiltIn.{figures, built-in-set}
 use Rattle.code.proofs.Eliminate as eliminate
 use Rattle.code.proofs.Reach.{fits}
@@ -27,12 +27,11 @@ use Rattle.code.proofs.Members.{zero-stored}
 use Rattle.marks.specs.Marks.{marked-chips, marks-cause, in-range, two-equal}
 use Rattle.marks.specs.declared.CardMark.the-variants.{None, Card}
 use Rattle.marks.specs.declared.Marks.{Marks}
-use Rattle.marks.proofs.Laws.{cause-lawful}
+use Rattle.marks.proofs.Laws.{cause-lawful, few-chips}
 use Rattle.reading.specs.Allowed.{ChipKind}
-use Rattle.reading.proofs.Marked.{few-chips}
 use Rattle.reading.proofs.Searches.{covered-beside}
 use Rattle.reading.proofs.Facts.{clean-reads}
-use Rattle.table.specs.Table.{zeros-but, zeros, six, Told, Holds, StarredBlocks, BesideCard}
+use Rattle.table.specs.Table.{zeros-but, six, Told, Holds, StarredBlocks, BesideCard}
 use Rattle.table.proofs.Settled.{Exactly, one-answer, no-member}
 use Rattle.table.proofs.Rows.{block-by, lawful-by, chips-row, card-row, reached-fits, only-card, search-row, several-row}
 

@@ -11,9 +11,9 @@ use mathlib.Core.Logic.{_↔_}
 use mathlib.Core.Path.{_≡_}
 use mathlib.Core.List.{List, [], _∷_}
 use Prim.Native.Nat.{ℕ, _<_}
-use lib.ListN.{replicate, set}
+use lib.ListN.{set}
 use Rattle.answer.specs.Answer.{Answer, clean, in-chips, in-card, refused, refused-card}
-use Rattle.code.specs.Block.{Block}
+use Rattle.code.specs.Block.{Block, zeros}
 use Rattle.code.specs.Labels.{built-in}
 use Rattle.marks.specs.Marks.{marked-chips, LawfulMarks}
 use Rattle.marks.specs.Mark.{of-chips}
@@ -22,11 +22,8 @@ use Rattle.marks.specs.declared.Marks.{Marks}
 use Rattle.reading.specs.Reading.{Reaches, ReadsUnder}
 
 abbrev pub zeros-but : List (ℕ × ℕ) → List ℕ
-zeros-but [] = replicate 45 0
+zeros-but [] = zeros
 zeros-but (s ∷ l) = set (zeros-but l) (s .0) (s .1)
-
-abbrev pub zeros : List ℕ
-zeros = zeros-but []
 
 -- ---- the column "Reading"
 pub data Told : Type 0 where

@@ -29,7 +29,7 @@ returns-2 c =
 returns-3 : tie.Need-returns-3
 returns-3 c =
     let apply = c .before .before in
-    let decode = apply .before .before .before in
+    let decode = apply .before .before in
     let sums = decode .before .before .before in
     let call = sums .before .before .before in
     let b = call .before .before .args .block .now in

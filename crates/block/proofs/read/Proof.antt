@@ -46,7 +46,7 @@ returns-5 : tie.Need-returns-5
 returns-5 c =
     let apply = c .before .before in
     let copy = apply .before .before .before .before in
-    let corrected = copy .before .before .before .before in
+    let corrected = copy .before .before .before in
     let decode = corrected .before in
     let sums = decode .before .before .before in
     let marked = sums .before in
@@ -64,7 +64,7 @@ returns-5 c =
     let w = decoded-read m lawful b bb (sums .of-block .result) s (decode .decode .result) (decode .decode .ensures) in
     read-done b m out a _ e
     (rw (apply .apply .ensures, copy .copy-block2 .ensures .0)
-    (written m b a x w _ (corrected .was-corrected .ensures) (copy .before .before .before .if5 .taken) out))
+    (written m b a x w _ (corrected .was-corrected .ensures) (copy .before .before .if5 .taken) out))
 
 returns-6 : tie.Need-returns-6
 returns-6 c =

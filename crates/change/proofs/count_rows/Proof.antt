@@ -5,7 +5,7 @@ use lib.ListN.{getD}
 use Rattle.base.specs.Base.{tally}
 use Rattle.base.proofs.Tally.{count-more}
 use Rattle.change.specs.Change.{nonzero-at}
-use Rattle.change.proofs.Places.{at-most-one}
+use Rattle.change.proofs.Weight.{at-most-one}
 use native.Mathlib.Omega.{arith}
 use Rattle.change.proofs.count_rows.Statement.{statement}
 use Rattle.change.proofs.count_rows.Tie as tie

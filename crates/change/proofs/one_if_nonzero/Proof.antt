@@ -1,7 +1,7 @@
 -- One where the number is not 0: the two returns are the two values of the test.
 use mathlib.Core.Path.{sym, ap}
 use Rattle.base.specs.Base.{bit}
-use Rattle.change.proofs.Places.{zero-not, nonzero-is}
+use Rattle.change.proofs.Weight.{zero-not, nonzero-is}
 use Rattle.change.proofs.one_if_nonzero.Statement.{statement}
 use Rattle.change.proofs.one_if_nonzero.Tie as tie
 

@@ -1,6 +1,6 @@
 -- A byte of the card is changed exactly where one of its rows is not 0.
 use mathlib.Core.Path.{_≡_, ap, _∙_}
-use Rattle.change.specs.Change.{places}
+use Rattle.change.specs.Change.{weight}
 use Rattle.decode.proofs.Answer.{alone-counted}
 use Rattle.decode.proofs.Kind.{no-card, some-card}
 use borrow.Author.Needs.{needs}
@@ -23,14 +23,14 @@ returns : tie.Need-returns
 returns c =
     let n = c .before .before in
     let own = n .before in
-    no-card _ _ _ _ _ _ (c .before .if1 .taken) (own .count .ensures .places ∙ ap places (own .before .alone .ensures) ∙ alone-counted _ _)
-    (n .count2 .ensures .places) (c .chips-kind .ensures)
+    no-card _ _ _ _ _ _ (c .before .if1 .taken) (own .count .ensures .weight ∙ ap weight (own .before .alone .ensures) ∙ alone-counted _ _)
+    (n .count2 .ensures .weight) (c .chips-kind .ensures)
 
 returns-2 : tie.Need-returns-2
 returns-2 c =
     let n = c .before in
     let own = n .before in
-    some-card _ _ _ _ _ (c .if1 .left) (own .count .ensures .places ∙ ap places (own .before .alone .ensures) ∙ alone-counted _ _) (n .count2 .ensures .places)
+    some-card _ _ _ _ _ (c .if1 .left) (own .count .ensures .weight ∙ ap weight (own .before .alone .ensures) ∙ alone-counted _ _) (n .count2 .ensures .weight)
 
 pub kind-under-spec : {M : Type 1} → statement M
 kind-under-spec =

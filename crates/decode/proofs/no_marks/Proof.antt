@@ -10,7 +10,7 @@ use Rattle.code.proofs.BuiltIn.{built-in-set}
 use Rattle.marks.specs.declared.CardMark.the-variants.{None}
 use Rattle.sums.specs.Sums.{rows-of}
 use Rattle.sums.specs.declared.Sums.{Sums}
-use Rattle.change.specs.Change.{places}
+use Rattle.change.specs.Change.{weight}
 use Rattle.reading.specs.declared.Reading.the-variants.{Several, Refused}
 use Rattle.decode.specs.Equations.{rows-only}
 use Rattle.decode.specs.Search.{Known, Alone, Looked}
@@ -33,10 +33,10 @@ five-holds : tie.Need-five-holds Inv-five μ-five
 five-holds c = (omega arith, omega arith, omega arith, (λ e. omega arith), ((λ e. absurd (omega arith)), λ b k i l. absurd (omega arith)))
 
 -- the rows that are not 0 are counted
-counted : (c : tie.After-count Inv-five μ-five) → c .count .result ≡ places (rows-only (rows-of (c .before .before .before .args .s)) 0)
+counted : (c : tie.After-count Inv-five μ-five) → c .count .result ≡ weight (rows-only (rows-of (c .before .before .before .args .s)) 0)
 counted c =
     let a = c .before in
-    c .count .ensures .places ∙ ap places (a .alone .ensures ∙ ap (λ (z : List ℕ). rows-only z 0) (a .before .rows .ensures))
+    c .count .ensures .weight ∙ ap weight (a .alone .ensures ∙ ap (λ (z : List ℕ). rows-only z 0) (a .before .rows .ensures))
 
 fits-alone-requires : tie.Need-fits-alone-requires Inv-five μ-five
 fits-alone-requires c κs =

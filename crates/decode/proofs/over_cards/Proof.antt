@@ -15,8 +15,8 @@ use Rattle.marks.specs.declared.CardMark.the-variants.{None}
 use Rattle.sums.specs.Words.{spread}
 use Rattle.sums.specs.Sums.{rows-of}
 use Rattle.reading.specs.declared.Reading.the-variants.{Several, Refused}
-use Rattle.reading.proofs.Marked.{few-chips}
-use Rattle.decode.specs.Equations.{fits-by, Solves, chips-in}
+use Rattle.marks.proofs.Laws.{few-chips}
+use Rattle.decode.specs.Equations.{fits-by, Solves, chips-off}
 use Rattle.decode.specs.Search.{SumsAt, Held}
 use Rattle.decode.proofs.Answer.{refusal}
 use Rattle.decode.proofs.Cards.{passed, none-reads, several-reads}
@@ -39,9 +39,6 @@ cards-holds c = (
 )
 
 -- ---- a turn
-card-word-requires : tie.Need-card-word-requires Inv-cards μ-cards
-card-word-requires c κs = c .cards-test .taken
-
 -- the two sums are those of card j
 sums : (c : tie.After-add2 Inv-cards μ-cards) → let a = c .before .before in let l = a .before .before .before .before in
     let s = l .before .before .before in SumsAt (s .args .labels .now) (s .args .s) (l .cards .j) (a .add .result) (c .add2 .result)
@@ -59,7 +56,7 @@ sums c =
 
 -- the chips to solve for are those off card j
 off : (c : tie.After-off-card Inv-cards μ-cards) → let l = c .before .before .before .before .before .before .before in
-    Beside (l .cards .j) (chips-in (c .off-card .result))
+    Beside (l .cards .j) (chips-off (c .off-card .result))
 off c =
     let l = c .before .before .before .before .before .before .before in
     let s = l .before .before .before in
@@ -91,7 +88,7 @@ solved c =
     let ls = s .args .labels .now in
     subst (λ (qs : List ℕ). Solves ls (rows-of (s .args .s)) (l .cards .j) qs (a .add .result) (o .before .add2 .result) (c .solve .result))
     (o .off-card .ensures)
-    (subst (λ (z : List ℕ). Solves ls z (l .cards .j) (chips-in (o .off-card .result)) (a .add .result) (o .before .add2 .result) (c .solve .result))
+    (subst (λ (z : List ℕ). Solves ls z (l .cards .j) (chips-off (o .off-card .result)) (a .add .result) (o .before .add2 .result) (c .solve .result))
     (l .before .rows .ensures) (c .solve .ensures))
 
 of-chip-kind-requires : tie.Need-of-chip-kind-requires Inv-cards μ-cards
@@ -111,7 +108,7 @@ returns c =
     let m = s .args .m in
     found-chips (s .args .labels .now) (s .pre .0) (marked-chips m) (few-chips m (s .pre .2)) (s .args .s) (l .cards .j) (at .cards-test .taken) _ _ (sums A)
     (v .solve .result) (solved v) (few-enough m (s .pre .2) (v .solve .result) _ (k .of-chip-kind .ensures) (n .before .if2 .taken))
-    (n .count .result) (n .count .ensures .places) _ (c .chips-kind .ensures)
+    (n .count .result) (n .count .ensures .weight) _ (c .chips-kind .ensures)
 
 add-j : tie.Need-add-j Inv-cards μ-cards
 add-j c = omega (arith, c .before .before .before .before .before .before .before .before .cards-test .taken)
@@ -245,14 +242,14 @@ returns-4 c =
     let card = l .cards .card in
     let solves = subst (λ (qs : List ℕ). Solves ls (rows-of (s .args .s)) card qs (l .cards .held-once) (l .cards .held-squared) (v .solve2 .result))
     (o .off-card2 .ensures)
-    (subst (λ (z : List ℕ). Solves ls z card (chips-in (o .off-card2 .result)) (l .cards .held-once) (l .cards .held-squared) (v .solve2 .result))
+    (subst (λ (z : List ℕ). Solves ls z card (chips-off (o .off-card2 .result)) (l .cards .held-once) (l .cards .held-squared) (v .solve2 .result))
     (l .before .rows .ensures) (v .solve2 .ensures)) in
     card-answers ls (s .pre .0) (marked-chips m) (few-chips m (s .pre .2)) (s .args .s) card (held .below) _ _ (held .sums (one (o .before)))
-    (v .solve2 .result) solves (c .count2 .result) (c .count2 .ensures .places) (λ b k. rw (one (o .before)) at (held .looked b k))
+    (v .solve2 .result) solves (c .count2 .result) (c .count2 .ensures .weight) (λ b k. rw (one (o .before)) at (held .looked b k))
 
 pub over-cards-spec : {M : Type 1} → statement M
 over-cards-spec =
     tie.close
-    (tie.spec Inv-cards μ-cards (λ c κs. tt) cards-holds card-word-requires (λ c κs. tt) (λ c κs. tt) (λ c κs. tt) (λ c κs. tt) (λ c κs. tt)
+    (tie.spec Inv-cards μ-cards (λ c κs. tt) cards-holds (λ c κs. tt) (λ c κs. tt) (λ c κs. tt) (λ c κs. tt) (λ c κs. tt) (λ c κs. tt)
     fits-requires solve-requires of-chip-kind-requires (λ c κs. tt) (λ c κs. tt) returns add-j cards-less cards-again (λ c κs. tt) returns-2
     (λ c κs. tt) returns-3 (λ c κs. tt) solve-requires-2 (λ c κs. tt) returns-4)

@@ -12,9 +12,9 @@ use Rattle.marks.specs.Marks.{chips-of, marked-chips}
 use Rattle.marks.specs.declared.CardMark.the-variants.{Card}
 use Rattle.sums.specs.Words.{spread}
 use Rattle.sums.specs.Sums.{rows-of}
-use Rattle.reading.proofs.Marked.{few-chips}
+use Rattle.marks.proofs.Laws.{few-chips}
 use Rattle.reading.proofs.Searches.{beside-chips}
-use Rattle.decode.specs.Equations.{fits-by, Solves, chips-in}
+use Rattle.decode.specs.Equations.{fits-by, Solves, chips-off}
 use Rattle.decode.specs.Search.{SumsAt}
 use Rattle.decode.specs.Decode.{Answers}
 use Rattle.decode.proofs.Turns.{sums-by}
@@ -23,15 +23,19 @@ use borrow.Author.Needs.{needs}
 use Rattle.decode.proofs.under_card.Statement.{statement}
 use Rattle.decode.proofs.under_card.Tie as tie
 
+-- where the rows were made, seen from where both sums are known
+abbrev at-rows : tie.After-add2 → tie.After-rows
+at-rows c = c .before .before .before .before .before
+
 -- the two sums are those of the marked card
-sums : (c : tie.After-add2) → let a = c .before .before in let s = a .before .before .before .before .before in
-    SumsAt (s .args .labels .now) (s .args .s) (s .args .j) (a .add .result) (c .add2 .result)
+sums : (c : tie.After-add2) → let s = at-rows c .before .before in
+    SumsAt (s .args .labels .now) (s .args .s) (s .args .j) (c .before .before .add .result) (c .add2 .result)
 sums c =
     let y = c .before in
     let a = y .before in
     let x = a .before in
     let g = x .before in
-    let r = g .before in
+    let r = at-rows c in
     let s = r .before .before in
     sums-by (s .args .labels .now) (s .pre .0) (s .args .s) (s .args .j) (s .pre .3) (spread built-in) (ap spread (sym (s .pre .1))) _ (r .rows .ensures)
     (g .card-word .result) _ _ _ _ (g .card-word .ensures) (x .at-x .ensures) (y .at-x-squared .ensures) (a .add .ensures) (c .add2 .ensures)
@@ -40,45 +44,51 @@ returns : tie.Need-returns
 returns c =
     let t = c .before in
     let A = t .before .before in
-    let r = A .before .before .before .before .before in
+    let r = at-rows A in
     let s = r .before .before in
     let none : marked-chips (s .args .m) ≡ chips-of 0 0 0 = ap (λ (n : ℕ). chips-of n (s .args .m .first) (s .args .m .second)) (t .if1 .taken) in
     subst (λ (ps : List ℕ). Answers (s .args .labels .now) (Card (s .args .j)) ps (s .args .s) (c .beside-card .result)) (sym none)
     (c .beside-card .ensures (s .args .s) (r .rows .ensures) (sums A))
 
+-- ---- with marked chips
+-- where both sums are known, seen from where the chips are
+abbrev at-sums : tie.After-off-card → tie.After-add2
+at-sums c = c .before .before .before
+
 -- the chips to solve for are the marked ones off the card, whichever search it is
-chips : (c : tie.After-off-card) → let s = c .before .before .before .before .before .before .before .before .before .before in
-    (f : ℕ) → chips-in (c .off-card .result) ≡ keep (s .args .j) (beside-chips (marked-chips (s .args .m)) f)
+chips : (c : tie.After-off-card) → let s = at-rows (at-sums c) .before .before in
+    (f : ℕ) → chips-off (c .off-card .result) ≡ keep (s .args .j) (beside-chips (marked-chips (s .args .m)) f)
 chips c f =
-    let e = c .before in
-    let s = e .before .before .before .before .before .before .before .before .before in
+    let s = at-rows (at-sums c) .before .before in
     let m = s .args .m in
-    c .off-card .ensures ∙ ap (keep (s .args .j)) (sym (beside-marked (m .count) (m .first) (m .second) f (e .if1 .left)))
+    c .off-card .ensures ∙ ap (keep (s .args .j)) (sym (beside-marked (m .count) (m .first) (m .second) f (c .before .if1 .left)))
+
+-- they can be found beside the card
+off : (c : tie.After-off-card) → Beside (at-rows (at-sums c) .before .before .args .j) (chips-off (c .off-card .result))
+off c =
+    let s = at-rows (at-sums c) .before .before in
+    let m = s .args .m in
+    subst (Beside (s .args .j)) (sym (c .off-card .ensures)) (keep-beside (s .args .j) (marked-chips m) (few-chips m (s .pre .2)))
 
 fits-requires : tie.Need-fits-requires
 fits-requires c κs =
-    let A = c .before .before .before in
-    let s = A .before .before .before .before .before .before .before in
-    let m = s .args .m in
-    let off = subst (Beside (s .args .j)) (sym (c .off-card .ensures)) (keep-beside (s .args .j) (marked-chips m) (few-chips m (s .pre .2))) in
-    (s .pre .0 .bytes .long, s .pre .3, off)
+    let s = at-rows (at-sums c) .before .before in
+    (s .pre .0 .bytes .long, s .pre .3, off c)
 
 solve-requires : tie.Need-solve-requires
 solve-requires c κs =
     let f = c .before in
-    let A = f .before .before .before .before in
-    let s = A .before .before .before .before .before .before .before in
-    let m = s .args .m in
-    let off = subst (Beside (s .args .j)) (sym (f .before .off-card .ensures)) (keep-beside (s .args .j) (marked-chips m) (few-chips m (s .pre .2))) in
-    (s .pre .0 .bytes .long, s .pre .3, off, passes (f .fits2 .ensures) (c .if2 .taken))
+    let o = f .before in
+    let s = at-rows (at-sums o) .before .before in
+    (s .pre .0 .bytes .long, s .pre .3, off o, passes (f .fits2 .ensures) (c .if2 .taken))
 
 returns-2 : tie.Need-returns-2
 returns-2 c =
     let v = c .before in
     let o = v .before .before .before in
-    let A = o .before .before .before in
+    let A = at-sums o in
     let a = A .before .before in
-    let r = a .before .before .before in
+    let r = at-rows A in
     let s = r .before .before in
     let m = s .args .m in
     let ls = s .args .labels .now in
@@ -87,16 +97,16 @@ returns-2 c =
     found-answers ls (s .pre .0) (marked-chips m) (few-chips m (s .pre .2)) (s .args .s) j (s .pre .3) (a .add .result) (A .add2 .result)
     (sums A) 0 (omega arith) d
     (subst (λ (qs : List ℕ). Solves ls (rows-of (s .args .s)) j qs (a .add .result) (A .add2 .result) d) (chips o 0)
-    (subst (λ (z : List ℕ). Solves ls z j (chips-in (o .off-card .result)) (a .add .result) (A .add2 .result) d) (r .rows .ensures) (v .solve .ensures)))
+    (subst (λ (z : List ℕ). Solves ls z j (chips-off (o .off-card .result)) (a .add .result) (A .add2 .result) d) (r .rows .ensures) (v .solve .ensures)))
     _ (c .kind-under .ensures)
 
 returns-3 : tie.Need-returns-3
 returns-3 c =
     let f = c .before .before in
     let o = f .before in
-    let A = o .before .before .before in
+    let A = at-sums o in
     let a = A .before .before in
-    let s = a .before .before .before .before .before in
+    let s = at-rows A .before .before in
     let m = s .args .m in
     let ls = s .args .labels .now in
     let j = s .args .j in

@@ -29,10 +29,11 @@ returns c =
     let b : List ℕ = begun .begin .last .1 .0 in
     let hb : (p : ℕ) → byte b p < 2 ^ 8 = λ p. omega (arith, known .slice-known2 .given p) in
     let u : ℕ = g .gather .result in
+    let word = g .gather .ensures .block (begun .begin .ensures .long) in
     is-stored built-in built-in-set 26 243 136 247 built-in-factors (s .args .rec .now) b (first .add-in-row .last .0) (second .add-in-row2 .last .0)
     (s .pre .0) hb (begun .begin .ensures) (once .at-x .result) (squared .at-x-squared .result) (x .combine .result) (y .combine2 .result)
-    (once .at-x .ensures ∙ once-of built-in b (spread built-in) built-in-below hb refl u (g .gather .ensures))
-    (squared .at-x-squared .ensures ∙ squared-of built-in b (spread built-in) built-in-below hb refl u (g .gather .ensures))
+    (once .at-x .ensures ∙ once-of built-in b (spread built-in) built-in-below hb refl u word)
+    (squared .at-x-squared .ensures ∙ squared-of built-in b (spread built-in) built-in-below hb refl u word)
     (x .combine .ensures) (y .combine2 .ensures) (first .add-in-row .ensures) (second .add-in-row2 .ensures)
 
 pub write-spec : {M : Type 1} → statement M

@@ -1,15 +1,12 @@
 -- Invariant: the word is the sum of byte times word over the places passed. A byte times a small word fits.
 use mathlib.Core.Path.{_≡_, refl, sym, ap, _∙_, subst}
-use mathlib.Core.List.{List}
 use Prim.Native.Nat.{ℕ, _+_, _≤_, _<_, _-_, _*_}
 use native.Mathlib.Omega.{arith}
-use lib.ListN.{length, getD}
+use lib.ListN.{getD}
 use Rattle.field.specs.Field.{sum, _⊕_}
 use Rattle.code.specs.Labels.{built-in}
-use Rattle.code.proofs.BuiltIn.{built-in-set}
 use Rattle.sums.specs.Words.{spread, gathered}
-use Rattle.sums.proofs.Points.{one-more, spread-length, spread-small, word-fits}
-use Rattle.sums.proofs.Syndrome.{part-at}
+use Rattle.sums.proofs.Points.{one-more, spread-small, word-fits}
 use Rattle.sums.proofs.gather_card.Statement.{statement}
 use Rattle.sums.proofs.gather_card.Tie as tie
 
@@ -22,10 +19,7 @@ abbrev μ-loop : tie.MeasureT-loop
 -- card j's words, among all
 word : (c : tie.After-card-words Inv-loop μ-loop) (i : ℕ) → i < 9
     → getD (c .card-words .result) i 0 ≡ getD (spread built-in) (9 * c .before .before .args .j + i) 0
-word c i l = ap (λ (v : List ℕ). getD v i 0) (c .card-words .ensures) ∙ part-at (spread built-in) (c .before .before .args .j) i l
-
-card-words-requires : tie.Need-card-words-requires Inv-loop μ-loop
-card-words-requires c κs = c .before .pre .1
+word c i l = c .card-words .ensures i l
 
 loop-holds : tie.Need-loop-holds Inv-loop μ-loop
 unfolding sum
@@ -37,11 +31,10 @@ mul-u-2 c =
     let s = l .before .before .before in
     let i : ℕ = l .loop .i in
     let here : i < 9 = c .before .before .loop-test .taken in
-    let all : length (spread built-in) ≡ 45 = spread-length built-in ∙ built-in-set .bytes .long in
     record {
       fits = word-fits (c .wide .result) (getD (l .before .card-words .result) i 0)
           (omega (arith, c .wide .ensures, c .before .shared-slice-known2 .given (s .args .at + i)))
-          (subst (λ (x : ℕ). x < 0x0101010101010102) (sym (word (l .before) i here)) (spread-small built-in (9 * s .args .j + i) (omega (arith, s .pre .1))));
+          (subst (λ (x : ℕ). x < 0x0101010101010102) (sym (word (l .before) i here)) (spread-small built-in (9 * s .args .j + i)));
     }
 
 loop-again : tie.Need-loop-again Inv-loop μ-loop
@@ -63,5 +56,5 @@ returns c = let e : c .before .loop .i ≡ 9 = omega arith in rw e at (c .before
 pub gather-card-spec : {M : Type 1} → statement M
 gather-card-spec =
     tie.close
-    (tie.spec Inv-loop μ-loop card-words-requires loop-holds (λ c. omega arith) (λ c. omega arith) (λ c κs. tt) (λ c. omega arith) (λ c. omega arith)
+    (tie.spec Inv-loop μ-loop (λ c κs. tt) loop-holds (λ c. omega arith) (λ c. omega arith) (λ c κs. tt) (λ c. omega arith) (λ c. omega arith)
     mul-u-2 (λ c. omega arith) (λ c. omega arith) loop-again returns)

@@ -18,7 +18,7 @@ returns-2 c =
     record {
       block = λ n.
           sums-are built-in (s .args .block .now) (spread built-in) built-in-below
-          (λ p. omega (arith, known .shared-slice-known .given p)) refl (g .gather .result) (g .gather .ensures) _
+          (λ p. omega (arith, known .shared-slice-known .given p)) refl (g .gather-cards .result) (g .gather-cards .ensures) _
           (low .low-rows .ensures) (omega arith) (high .last-row .ensures) (c .before .at-x .ensures) (c .at-x-squared .ensures);
       other = λ n. absurd (n (g .before .if1 .left));
       kept = refl;

@@ -1,9 +1,9 @@
--- Spreading the labels in figures gives each card's words.
+-- Spreading the labels in figures gives each card's words; above card 4 there are none, as of a list's entries past its end.
 use mathlib.Core.Path.{refl}
 use native.Mathlib.Omega.{arith}
 use Rattle.code.proofs.BuiltIn.{figures}
 use Rattle.sums.specs.Words.{spread-of}
-use Rattle.sums.proofs.Syndrome.{in-part}
+use Rattle.sums.proofs.Syndrome.{in-part, no-part}
 use Rattle.sums.proofs.words.card_words.Statement.{statement}
 use Rattle.sums.proofs.words.card_words.Tie as tie
 
@@ -28,7 +28,7 @@ unfolding figures spread-of
 returns-5 c = in-part _ 4 (c .before .args .j) (omega arith) refl
 
 returns-6 : tie.Need-returns-6
-returns-6 c = absurd (omega (arith, c .before .pre))
+returns-6 c = no-part (c .before .args .j) (omega arith)
 
 pub card-words-spec : {M : Type 1} → statement M
 card-words-spec = tie.close (tie.spec returns returns-2 returns-3 returns-4 returns-5 returns-6)

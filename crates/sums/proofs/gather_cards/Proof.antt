@@ -6,8 +6,8 @@ use Rattle.code.specs.Labels.{built-in}
 use Rattle.sums.specs.Words.{spread, gathered}
 use Rattle.sums.proofs.Cards.{five-cards}
 use borrow.Author.Needs.{needs}
-use Rattle.sums.proofs.gather.Statement.{statement}
-use Rattle.sums.proofs.gather.Tie as tie
+use Rattle.sums.proofs.gather_cards.Statement.{statement}
+use Rattle.sums.proofs.gather_cards.Tie as tie
 
 returns : tie.Need-returns
 unfolding _⊕_ gathered
@@ -20,7 +20,7 @@ returns c =
     five-cards (λ (p : ℕ). getD b p 0 * getD (spread built-in) p 0) _ _ _ _ _ (w₀ .gather-card .ensures) (w₁ .gather-card2 .ensures)
     (w₂ .gather-card3 .ensures) (w₃ .gather-card4 .ensures) (c .gather-card5 .ensures)
 
-pub gather-spec : {M : Type 1} → statement M
-gather-spec =
+pub gather-cards-spec : {M : Type 1} → statement M
+gather-cards-spec =
     tie.close
     (tie.spec (λ c κs. search needs) (λ c κs. search needs) (λ c κs. search needs) (λ c κs. search needs) (λ c κs. search needs) returns)

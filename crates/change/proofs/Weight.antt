@@ -3,8 +3,8 @@
 --   zero-not, nonzero-is, nonzero-ne   the test that a number is not 0
 --   same-at, other-at       a byte is kept exactly where nothing is added
 --   on-card, off-card       what a well-formed change adds on its card, and elsewhere
---   adds-places             it adds something at as many positions as it has places that are not 0
---   changes-places          so that is how many bytes it changes
+--   adds-weight             it adds something at as many positions as it has places that are not 0
+--   changes-weight          so that is how many bytes it changes
 --   unmoved, moved          it changes the block exactly where it has such a place
 use mathlib.Core.Logic.{_≢_, _⊎_, inl, inr}
 use mathlib.Core.Path.{_≡_, refl, sym, ap, ap₂, _∙_, subst}
@@ -21,7 +21,7 @@ use Rattle.base.proofs.Tally.{clash, tally-ext, tally-never, tally-none, tally-
 use Rattle.field.specs.Field.{_⊕_}
 use Rattle.field.proofs.Xor.{add-zero, zero-add, add-self-left, add-self}
 use Rattle.code.specs.Block.{byte, changes}
-use Rattle.change.specs.Change.{adds, applied, nonzero, nonzero-at, places, WellFormed}
+use Rattle.change.specs.Change.{adds, applied, nonzero, nonzero-at, weight, WellFormed}
 use Rattle.change.specs.declared.Change.{Change}
 use Rattle.change.proofs.Made.{applied-at, unadded}
 
@@ -152,9 +152,9 @@ module _ (d : Change) (w : WellFormed d) where
           = ap (λ (t : Bool). bit (t && nonzero-at (d .rows) (r % 9))) (ne-eqb (r / 9) (d .card) h) in
           omega (arith, here, mine, both (same r (d .p)) (same r (d .q)) (w .second))
 
-  pub adds-places : tally 45 (λ r. nonzero (adds d r)) ≡ places d
-  unfolding places row-test
-  adds-places =
+  pub adds-weight : tally 45 (λ r. nonzero (adds d r)) ≡ weight d
+  unfolding weight row-test
+  adds-weight =
       let rows = tally-card (d .card) (w .card) (nonzero-at (d .rows)) in
       tally-add 45 (λ r. nonzero (adds d r)) row-test (at (d .p) (d .e)) (at (d .q) (d .f)) (λ r l. each r)
       ∙ omega (arith, rows, one-place (d .p) (d .e) (first-in (w .first)), one-place (d .q) (d .f) (second-in (w .second)))
@@ -168,16 +168,16 @@ module _ (d : Change) (w : WellFormed d) where
       second-in (inr i) = inr (i .0)
 
   module _ (b : List ℕ) (l : length b ≡ 45) where
-    pub changes-places : changes b (applied b d) ≡ places d
-    changes-places = changes-adds b d l ∙ adds-places
+    pub changes-weight : changes b (applied b d) ≡ weight d
+    changes-weight = changes-adds b d l ∙ adds-weight
 
-    pub unmoved : places d ≡ 0 → applied b d ≡ b
-    unmoved e = unadded b d l (λ p h. still p (tally-none (λ r. nonzero (adds d r)) 45 (adds-places ∙ e) p h))
+    pub unmoved : weight d ≡ 0 → applied b d ≡ b
+    unmoved e = unadded b d l (λ p h. still p (tally-none (λ r. nonzero (adds d r)) 45 (adds-weight ∙ e) p h))
       where
         still : (p : ℕ) → nonzero (adds d p) ≡ false → adds d p ≡ 0
         still p q = eqb-true (adds d p) 0 (not-false (eqb (adds d p) 0) q)
 
-    pub moved : 1 ≤ places d → applied b d ≢ b
+    pub moved : 1 ≤ weight d → applied b d ≢ b
     moved h e =
-        let v = tally-some (λ r. nonzero (adds d r)) 45 (subst (λ (n : ℕ). 1 ≤ n) (sym adds-places) h) in
+        let v = tally-some (λ r. nonzero (adds d r)) 45 (subst (λ (n : ℕ). 1 ≤ n) (sym adds-weight) h) in
         other-at b d l (v .0) (v .1) (nonzero-ne (adds d (v .0)) (v .2)) (ap (λ (x : List ℕ). byte x (v .0)) (sym e))

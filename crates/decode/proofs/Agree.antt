@@ -1,0 +1,72 @@
+-- What `decode` gives is decided: two outcomes for the same sums and marks answer alike, but for the card with 11, and do the same to
+-- every block.
+--
+--   decodes-agree   THE STATEMENT, of sums that are a block's
+use Prim.Native.Nat.{ℕ, zero, suc, _<_}
+use mathlib.Core.Path.{_≡_, refl, sym, ap, _∙_, subst}
+use mathlib.Core.Logic.{_≢_, _⊎_, inl, inr}
+use mathlib.Core.Bool.{Bool}
+use mathlib.Core.List.{List}
+use native.Mathlib.Omega.{arith}
+use lib.ListN.{length}
+use borrow.Author.Tests.{ne-eqb}
+use Rattle.base.specs.Base.{if}
+use Rattle.base.proofs.Tests.{same}
+use Rattle.answer.specs.Answer.{Answer, number, refused, but-card}
+use Rattle.answer.proofs.Causes.{Agreed}
+use Rattle.field.specs.Field.{_⊕_}
+use Rattle.field.proofs.Xor.{add-self-left}
+use Rattle.code.specs.Block.{byte, Block, block-of}
+use Rattle.code.specs.Labels.{built-in}
+use Rattle.code.proofs.Blocks.{same-block}
+use Rattle.marks.specs.Marks.{marks-cause}
+use Rattle.marks.specs.declared.Marks.{Marks}
+use Rattle.marks.proofs.Laws.{cause-lawful}
+use Rattle.sums.specs.Sums.{IsSums}
+use Rattle.sums.specs.declared.Sums.{Sums}
+use Rattle.change.specs.Change.{adds, applied}
+use Rattle.change.specs.declared.Change.{Change}
+use Rattle.change.proofs.Made.{applied-long, applied-at}
+use Rattle.reading.specs.Reading.{reading-answer}
+use Rattle.reading.proofs.Agree.{under-agree}
+use Rattle.decode.specs.Decode.{Decodes}
+use Rattle.decode.specs.declared.Decoded.{Decoded}
+
+-- changes that make the same of one block make the same of every block
+acts-alike : (d d′ : Change) (b : List ℕ) → length b ≡ 45 → applied b d ≡ applied b d′ → (c : List ℕ) → applied c d ≡ applied c d′
+unfolding applied
+acts-alike d d′ b l e c = pick (same (length c) 45)
+  where
+    added : (p : ℕ) → p < 45 → adds d p ≡ adds d′ p
+    added p h =
+        sym (add-self-left (byte b p) (adds d p))
+        ∙ ap (λ (x : ℕ). byte b p ⊕ x) (sym (applied-at b d l p h) ∙ ap (λ (x : List ℕ). byte x p) e ∙ applied-at b d′ l p h)
+        ∙ add-self-left (byte b p) (adds d′ p)
+
+    other : (x : Change) → length c ≢ 45 → applied c x ≡ c
+    other x n = ap (λ (t : Bool). if t (block-of (λ r. byte c r ⊕ adds x r)) c) (ne-eqb (length c) 45 n)
+
+    pick : (length c ≡ 45) ⊎ (length c ≢ 45) → applied c d ≡ applied c d′
+    pick (inl k) =
+        same-block (applied c d) (applied c d′) (applied-long c d k) (applied-long c d′ k)
+        (λ p h. applied-at c d k p h ∙ ap (λ (x : ℕ). byte c p ⊕ x) (added p h) ∙ sym (applied-at c d′ k p h))
+    pick (inr n) = other d n ∙ sym (other d′ n)
+
+pub decodes-agree : (s : Sums) (m : Marks) (r r′ : Decoded) → Decodes s m r → Decodes s m r′ → (b : List ℕ) → Block b → IsSums built-in b s
+    → (but-card (reading-answer (r .reading)) ≡ but-card (reading-answer (r′ .reading)))
+    × ((c : List ℕ) → applied c (r .change) ≡ applied c (r′ .change))
+decodes-agree s m r r′ w v b bb is = go (marks-cause m) refl
+  where
+    go : (n : ℕ) → marks-cause m ≡ n
+        → (but-card (reading-answer (r .reading)) ≡ but-card (reading-answer (r′ .reading)))
+        × ((c : List ℕ) → applied c (r .change) ≡ applied c (r′ .change))
+    go zero e =
+        let l = cause-lawful m e in
+        let g = under-agree m b b (reading-answer (r .reading)) (reading-answer (r′ .reading)) (applied b (r .change)) (applied b (r′ .change)) (w .reads l b bb is) (v .reads l b bb is) in
+        (g .0, acts-alike (r .change) (r′ .change) b (bb .long) (g .1))
+    go (suc n) e =
+        let ne : marks-cause m ≢ 0 = λ z. omega (arith, e, z) in
+        let k = w .unlawful ne in
+        let k′ = v .unlawful ne in
+        let refuses : (x : Answer) → x ≡ refused (marks-cause m) → number x ≢ 0 = λ x q z. ne (sym (ap number q) ∙ z) in
+        (ap but-card (k ∙ sym k′), λ c. ap (applied c) (w .unchanged (refuses (reading-answer (r .reading)) k) ∙ sym (v .unchanged (refuses (reading-answer (r′ .reading)) k′))))

@@ -1,0 +1,96 @@
+-- When a mark call is not refused, and which marks stand after it, in plain words.
+--
+--   left-in           what is not taken out of a list stays in it
+--   mark-accepted, mark-leaves   THE STATEMENTS
+use Prim.Native.Nat.{ℕ, _<_}
+use mathlib.Core.Path.{_≡_, refl, sym, _∙_}
+use mathlib.Core.Logic.{_≢_, inl, inr}
+use mathlib.Core.Bool.{Bool, true, false, not, true≢false}
+use mathlib.Core.List.{List, [], _∷_, _++_}
+use native.Mathlib.Omega.{arith}
+use lib.Dec.{eqb}
+use lib.ListN.{length}
+use borrow.Author.Tests.{ltb-true, lt-ltb, eqb-true, eqb-false, ne-eqb, not-false}
+use Rattle.base.specs.Base.{if, In, is-in}
+use Rattle.base.proofs.Few.{few-in, few-length}
+use Rattle.base.proofs.Lists.{in-is-in, is-in-in}
+use Rattle.marks.specs.Marks.{marked-chips, is-marked, LawfulMarks}
+use Rattle.marks.specs.Mark.{of-chips, remove, marked, card-is, some-card, mark-cause, MayAsk, MarkAccepted, MarkLeaves}
+use Rattle.marks.specs.declared.CardMark.{CardMark}
+use Rattle.marks.specs.declared.CardMark.the-variants.{None, Card}
+use Rattle.marks.specs.declared.Marks.{Marks}
+use Rattle.marks.specs.declared.MarkCall.{MarkCall}
+use Rattle.marks.specs.declared.MarkCall.the-variants.{PlaceChip, LiftChip, PlaceCard, LiftCard}
+use Rattle.marks.proofs.Few.{kept, removed, removed-in, removed-out}
+use Rattle.marks.proofs.Laws.{few-chips, chips-counted, Can, can, mark-can, unmarked, not-in, placed-few}
+
+-- ---- the card mark, as a test and as a fact
+no-card : (c : CardMark) → some-card c ≡ false → c ≡ None
+no-card None e = refl
+no-card (Card j) e = absurd (true≢false e)
+
+a-card : (c : CardMark) → not (some-card c) ≡ false → (j : ℕ) × (c ≡ Card j)
+a-card None e = absurd (true≢false e)
+a-card (Card j) e = (j, refl)
+
+-- ---- when it is not refused
+asks : (m : Marks) (c : MarkCall) → Can m c → MayAsk m c
+unfolding is-marked
+asks m (PlaceChip p) h =
+    let room = eqb-false (m .count) 2 (h .room) in
+    (ltb-true p 45 (h .asked), unmarked m p (h .new), omega (arith, chips-counted m (h .lawful), h .lawful .count, room))
+asks m (LiftChip p) h = is-in-in p (marked-chips m) (not-false _ (h .there))
+asks m (PlaceCard j) h = (ltb-true j 5 (h .asked), no-card (m .card) (h .room))
+asks m LiftCard h = a-card (m .card) (h .there)
+
+may : (m : Marks) (c : MarkCall) → LawfulMarks m → MayAsk m c → Can m c
+unfolding is-marked
+may m (PlaceChip p) l (h, new, room) = record {
+  lawful = l;
+  asked = lt-ltb p 45 h;
+  new = not-in p (marked-chips m) new;
+  room = ne-eqb (m .count) 2 (λ e. omega (arith, chips-counted m l));
+  there = refl;
+}
+may m (LiftChip p) l i = record {
+  lawful = l;
+  asked = lt-ltb p 45 (few-in 2 (marked-chips m) (few-chips m l) p i);
+  new = refl;
+  room = refl;
+  there = rw (in-is-in p (marked-chips m) i) refl;
+}
+may m (PlaceCard j) l (h, e) = record { lawful = l; asked = lt-ltb j 5 h; new = rw e refl; room = rw e refl; there = refl }
+may m LiftCard l (j, e) = record { lawful = l; asked = refl; new = refl; room = refl; there = rw e refl }
+
+pub mark-accepted : MarkAccepted
+mark-accepted m c = ((λ e. let h = can m c e in (h .lawful, asks m c h)), λ h. mark-can m c (may m c (h .0) (h .1)))
+
+-- ---- which marks stand after it
+left-in : (p q : ℕ) (l : List ℕ) → In q l → q ≢ p → In q (remove p l)
+left-in p q [] i ne = absurd i
+left-in p q (a ∷ l) i ne = go (eqb p a) refl i (λ z. left-in p q l z ne)
+  where
+    go : (t : Bool) → eqb p a ≡ t → In q (a ∷ l) → (In q l → In q (remove p l)) → In q (if t l (a ∷ remove p l))
+    go true e (inl z) later = absurd (ne (z ∙ sym (eqb-true p a e)))
+    go true e (inr z) later = z
+    go false e (inl z) later = inl z
+    go false e (inr z) later = inr (later z)
+
+card-of : (c : CardMark) (l : List ℕ) → of-chips c l .card ≡ c
+card-of c [] = refl
+card-of c (p ∷ []) = refl
+card-of c (p ∷ q ∷ l) = refl
+
+pub mark-leaves : MarkLeaves
+unfolding marked
+mark-leaves m (PlaceChip p) e =
+    let l = marked-chips m ++ (p ∷ []) in
+    (card-of (m .card) l, kept (m .card) l (few-length 2 l (placed-few m p (can m (PlaceChip p) e))))
+mark-leaves m (LiftChip p) e =
+    let f = few-chips m (can m (LiftChip p) e .lawful) in
+    let l = marked-chips m in
+    let r = remove p l in
+    let is = kept (m .card) r (few-length 2 r (removed 2 p l f)) in
+    (card-of (m .card) r, λ q. rw is ((λ i. (removed-in p q l i, λ z. removed-out 2 p l f (rw z at i))), λ h. left-in p q l (h .0) (h .1)))
+mark-leaves m (PlaceCard j) e = (refl, refl)
+mark-leaves m LiftCard e = (refl, refl)
