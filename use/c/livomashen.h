@@ -65,7 +65,8 @@ enum {
 enum {
     LIVOMASHEN_CLEAN = 0,            /* no byte was changed */
     LIVOMASHEN_IN_CHIPS = 1,         /* n bytes, in single chips */
-    LIVOMASHEN_IN_CARD = 2           /* n bytes, in a card and marked chips */
+    LIVOMASHEN_IN_CARD = 2           /* n bytes, in a card, marked chips and, beside a
+                                        marked card, one further chip */
 };
 
 /* A mark record is four bytes: card, count, first chip, second chip; an unused

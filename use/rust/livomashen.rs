@@ -66,7 +66,7 @@ pub enum Refusal {
     MarkAbsent,
     /// No record fits the block.
     None,
-    /// Two records or more fit; a change in `card` reaches one of them.
+    /// Two records or more fit; a change in `card` and in marked chips reaches one of them.
     Several { card: u8 },
 }
 

@@ -1,13 +1,13 @@
 -- Laws of causes, and of calls by their causes.
 --
 --   Holds, lowest-is           what the lowest number is: exactly the least of those that hold
---   rising, first-holds        in a list that rises from n, n is given where its cause holds
+--   above, first-holds         in a list of numbers from n up, n is given where its cause holds
 --   none-holds                 where no number is given, no cause holds
---   or-else, lowest-append     the causes of one part of a call, and then those of the next
+--   rising, or-else, lowest-append   the causes of one part of a call, and then those of the next
 --   by-refused, by-done        a call that is refused, or is not; by-accepted: what one says that is not; by-map: both ways carried over
 --   Agreed, by-agree, by-same  two outcomes of one call
-use Prim.Native.Nat.{ℕ, zero, suc, _≤_, _<_}
-use mathlib.Core.Path.{_≡_, refl, sym, ap, ap₂, _∙_, subst}
+use Prim.Native.Nat.{ℕ, zero, suc, _≤_}
+use mathlib.Core.Path.{_≡_, refl, sym, ap, _∙_, subst}
 use mathlib.Core.Logic.{_≢_, _⊎_, inl, inr}
 use mathlib.Core.Bool.{Bool, true, false, _&&_, false≢true}
 use mathlib.Core.List.{List, [], _∷_, _++_}
@@ -198,6 +198,7 @@ by-agree zero a a′ old x x′ D D′ w v f = f w v
 by-agree (suc n) a a′ old x x′ D D′ (e, u) (e′, u′) f = (ap but-card (e ∙ sym e′), u ∙ sym u′)
 
 -- of a call that leaves nothing
-pub by-same : (n : ℕ) (a a′ : Answer) (D D′ : Type 0) → By n a (Unit {0}) D → By n a′ (Unit {0}) D′ → (D → D′ → but-card a ≡ but-card a′) → but-card a ≡ but-card a′
+pub by-same : (n : ℕ) (a a′ : Answer) (D D′ : Type 0) → By n a (Unit {0}) D → By n a′ (Unit {0}) D′ → (D → D′ → but-card a ≡ but-card a′)
+    → but-card a ≡ but-card a′
 by-same zero a a′ D D′ w v f = f w v
 by-same (suc n) a a′ D D′ (e, u) (e′, u′) f = ap but-card (e ∙ sym e′)

@@ -49,7 +49,7 @@ abbrev pub outcome-answer : Outcome → Answer
 outcome-answer Done = done
 outcome-answer (Refused n) = refused n
 
--- ---- a call, by its cause: 0 where it is not refused
+-- ---- a call, by its cause: 0 where it is not refused, and then `did` says the answer too
 abbrev pub By : ℕ → Answer → Type 0 → Type 0 → Type 0
 By zero a unchanged did = did
 By (suc n) a unchanged did = (a ≡ refused (suc n)) × unchanged

@@ -1,7 +1,7 @@
 -- A call on a bank is not refused exactly when its bank, its numbers and its marks are as they should be.
 --
 --   accepts     THE STATEMENT
-use Prim.Native.Nat.{ℕ, zero, suc, _*_, _/_, _%_, _≤_, _<_}
+use Prim.Native.Nat.{ℕ, zero, suc, _/_, _<_}
 use mathlib.Core.Path.{_≡_, refl, sym, ap, _∙_}
 use mathlib.Core.Logic.{_≢_, _⊎_, inl, inr}
 use mathlib.Core.Bool.{Bool}
@@ -16,7 +16,7 @@ use Rattle.marks.specs.declared.Marks.{Marks}
 use Rattle.marks.proofs.Laws.{lawful-cause, cause-lawful}
 use Rattle.bank.specs.Calls.{bad-bank, past, size-causes, place-causes, clear-cause, put-cause, get-cause, patrol-cause, report-cause}
 use Rattle.bank.specs.Accepted.{FitBank, Accepts}
-use Rattle.bank.proofs.Causes.{size-right, sized, place-right, clear-is, put-3, put-is, get-2, get-is, patrol-is, report-is}
+use Rattle.bank.proofs.Causes.{size-right, sized, place-right, put-3, put-is, get-2, get-is, patrol-is, report-is}
 
 neither : (a b : ℕ) → or-else a b ≡ 0 → (a ≡ 0) × (b ≡ 0)
 neither zero b e = (refl, e)

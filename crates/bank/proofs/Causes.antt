@@ -5,18 +5,18 @@
 --   put-3, get-2   a wrong length is given first
 --   ..-is          where it is right, the place's cause is given, and then that of the marks
 --   within         where the place is not refused, block k lies in the bank
-use mathlib.Core.Logic.{_≢_, _⊎_, inl, inr}
+use mathlib.Core.Logic.{_≢_}
 use mathlib.Core.Path.{_≡_, refl, sym, ap, _∙_}
 use mathlib.Core.Bool.{Bool, true, false, _||_, not}
 use mathlib.Core.List.{List, [], _∷_, _++_}
-use Prim.Native.Nat.{ℕ, zero, suc, _+_, _*_, _/_, _%_, _<_, _≤_}
+use Prim.Native.Nat.{ℕ, _+_, _*_, _/_, _%_, _<_, _≤_}
 use native.Mathlib.Omega.{arith}
-use lib.Dec.{eqb, leb, ltb}
+use lib.Dec.{eqb, ltb}
 use lib.ListN.{length}
 use borrow.Author.Tests.{eq-eqb, ne-eqb, le-leb, lt-leb, le-ltb, lt-ltb, eqb-true, eqb-false, leb-false, ltb-false, not-false}
-use Rattle.answer.specs.Cause.{Cause, cause, lowest}
+use Rattle.answer.specs.Cause.{cause, lowest}
 use Rattle.answer.proofs.Causes.{first-holds, none-holds, or-else, lowest-append, else-first}
-use Rattle.marks.specs.Marks.{in-range, two-equal, marks-causes, marks-cause}
+use Rattle.marks.specs.Marks.{marks-causes, marks-cause}
 use Rattle.marks.specs.declared.Marks.{Marks}
 use Rattle.store.specs.Store.{store-cause}
 use Rattle.bank.specs.Calls.{bad-bank, past, size-causes, place-causes, clear-cause, put-cause, get-cause, patrol-cause, report-cause}

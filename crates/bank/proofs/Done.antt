@@ -4,14 +4,14 @@
 --   put-back       a block put back as it was
 --   ..-refused     a refused call
 --   ..-done        a call on block k, from what the call on that block says
+--   patrol-unread  a patrol that corrects nothing leaves the bank as it was
 --   no-blocks, one-more, report-done   what the report's loop has counted; total-le, class-below: within its limits
 use mathlib.Core.Logic.{_≢_, _⊎_, inl, inr}
 use mathlib.Core.Path.{_≡_, refl, sym, ap, _∙_, subst}
-use mathlib.Core.Bool.{Bool, true, false}
-use mathlib.Core.List.{List, [], _∷_, _++_}
-use Prim.Native.Nat.{ℕ, zero, suc, _+_, _-_, _*_, _/_, _<_, _≤_}
+use mathlib.Core.Bool.{true, false}
+use mathlib.Core.List.{List, [], _++_}
+use Prim.Native.Nat.{ℕ, zero, suc, _+_, _-_, _*_, _<_, _≤_}
 use native.Mathlib.Omega.{arith}
-use native.Mathlib.Numerals.{add-one}
 use lib.Dec.{eqb}
 use lib.ListN.{length, take, drop, replicate, getD, set, take-append-drop, length-take, length-drop, length-set, getD-replicate}
 use lib.Seq.{drop-drop, getD-set-same, getD-set-other}
@@ -19,7 +19,7 @@ use borrow.Author.Tests.{eq-eqb, ne-eqb}
 use Rattle.base.specs.Base.{tally}
 use Rattle.base.proofs.Tests.{same}
 use Rattle.base.proofs.Tally.{tally-ext, count-some, count-same, at-most}
-use Rattle.answer.specs.Answer.{Answer, done, clean, in-chips, in-card, counted, refused, refused-card, By}
+use Rattle.answer.specs.Answer.{Answer, done, clean, in-chips, in-card, counted, refused, refused-card, number, By}
 use Rattle.answer.proofs.Causes.{by-refused, by-done, by-accepted, by-map}
 use Rattle.marks.specs.Marks.{marks-cause}
 use Rattle.marks.specs.declared.Marks.{Marks}
@@ -105,6 +105,24 @@ module _ (bank : List ℕ) (k : ℕ) (b : List ℕ) (is : b ≡ block bank k) wh
       subst (λ (n : ℕ). By n a (bank′ ≡ bank) ((y : List ℕ) × ReadsUnder m (block bank k) (block bank k) a y × (bank′ ≡ with-block bank k y))) (sym e)
       (by-map (mend-cause (length b) m) a (x ≡ b) (ReadsUnder m b b a x) (bank′ ≡ bank) _
       (λ u. q ∙ ap (with-block bank k) (u ∙ is) ∙ put-back bank k) (λ z d. (x, subst (λ (l : List ℕ). ReadsUnder m l l a x) is d, q)) w)
+
+-- a patrol that corrects nothing leaves the bank as it was
+pub patrol-unread : (bank : List ℕ) (k : ℕ) (m : Marks) (a : Answer) (bank′ : List ℕ) → PatrolDone bank k m a bank′ → number a ≢ 0 → bank′ ≡ bank
+unfolding PatrolDone
+patrol-unread bank k m a bank′ w n = go (patrol-cause (length bank) k m) w
+  where
+    same-block : (a : Answer) (x : List ℕ) → number a ≢ 0 → ReadsUnder m (block bank k) (block bank k) a x → x ≡ block bank k
+    same-block clean x n h = absurd (n refl)
+    same-block (in-chips i) x n h = absurd (n refl)
+    same-block (in-card j i) x n h = absurd (n refl)
+    same-block (refused i) x n h = h .2
+    same-block (refused-card i j) x n h = h .3
+    same-block done x n h = absurd h
+    same-block (counted v w x y z) u n h = absurd h
+
+    go : (c : ℕ) → By c a (bank′ ≡ bank) ((x : List ℕ) × ReadsUnder m (block bank k) (block bank k) a x × (bank′ ≡ with-block bank k x)) → bank′ ≡ bank
+    go zero (x, r, q) = q ∙ ap (with-block bank k) (same-block a x n r) ∙ put-back bank k
+    go (suc c) (e, u) = u
 
 -- ---- report
 pub report-done : (bank : List ℕ) (m : Marks) (t : List ℕ) (a : Answer) → report-cause (length bank) m ≡ 0 → CountedBlocks bank m (blocks bank) t

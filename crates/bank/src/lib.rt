@@ -1,8 +1,8 @@
 // A bank of blocks in lent bytes: clear, put, get, patrol, and a report over it.
 ghost use mathlib.Core.Path.{_≡_};
-ghost use Prim.Native.Nat.{ℕ, _/_, _≤_, _<_};
+ghost use Prim.Native.Nat.{_/_, _≤_, _<_};
 ghost use lib.ListN.{length, replicate};
-ghost use Rattle.answer.specs.Answer.{Answer, outcome-answer};
+ghost use Rattle.answer.specs.Answer.{outcome-answer};
 ghost use Rattle.answer.specs.Cause.{lowest};
 ghost use Rattle.marks.specs.Marks.{marks-cause};
 ghost use Rattle.reading.specs.Reading.{reading-answer};

@@ -4,18 +4,18 @@
 --   read-marks, mend-marks      where the lengths are right, the marks decide; read-none, mend-none: where nothing is refused
 --   part-short, -whole, -none   the record part: of an output that is not 45 bytes, of a corrected block, of a refusal
 use mathlib.Core.Logic.{_≢_}
-use mathlib.Core.Path.{_≡_, refl, sym, ap, ap₂, _∙_}
+use mathlib.Core.Path.{_≡_, refl, sym, ap₂, _∙_}
 use mathlib.Core.Bool.{Bool, true, false, not}
 use mathlib.Core.List.{List, [], _∷_}
 use Prim.Native.Nat.{ℕ}
-use lib.Dec.{T, eqb}
+use lib.Dec.{eqb}
 use lib.ListN.{length, take}
 use borrow.Author.Tests.{eq-eqb, ne-eqb, eqb-true, not-false}
 use Rattle.base.specs.Base.{if}
 use Rattle.answer.specs.Answer.{Answer}
-use Rattle.answer.specs.Cause.{cause, lowest}
+use Rattle.answer.specs.Cause.{cause}
 use Rattle.answer.proofs.Causes.{first-holds, none-holds}
-use Rattle.marks.specs.Marks.{in-range, two-equal, marks-causes, marks-cause}
+use Rattle.marks.specs.Marks.{marks-causes, marks-cause}
 use Rattle.marks.specs.declared.Marks.{Marks}
 use Rattle.block.specs.Read.{read-cause, mend-cause, is-corrected, record-in}
 

@@ -5,7 +5,7 @@ use Prim.Native.Nat.{ℕ}
 use mathlib.Core.Path.{_≡_, sym, _∙_}
 use mathlib.Core.List.{List, []}
 use lib.ListN.{length}
-use Rattle.answer.specs.Answer.{Answer, but-card}
+use Rattle.answer.specs.Answer.{Answer}
 use Rattle.answer.proofs.Causes.{Agreed, by-agree, by-same}
 use Rattle.marks.specs.declared.Marks.{Marks}
 use Rattle.reading.proofs.Agree.{under-agree}

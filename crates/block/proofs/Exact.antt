@@ -2,25 +2,24 @@
 --
 --   one-not-none, one-not-two   a set with one member is not empty, and has not two
 --   accepted-exactly, exactly, clean-exactly   THE STATEMENTS
-use mathlib.Core.Logic.{_≢_, _↔_}
+use mathlib.Core.Logic.{_↔_}
 use mathlib.Core.Path.{_≡_, refl, sym, ap, _∙_, subst}
-use mathlib.Core.List.{List, []}
+use mathlib.Core.List.{List}
 use Prim.Native.Nat.{ℕ}
 use native.Mathlib.Omega.{arith}
 use lib.ListN.{length, take}
-use borrow.Author.Tests.{eq-eqb}
 use Rattle.answer.specs.Answer.{Answer, done, clean, in-chips, in-card, counted, refused, refused-card, number}
 use Rattle.answer.proofs.Causes.{by-accepted}
 use Rattle.marks.specs.Marks.{marked-chips}
 use Rattle.marks.specs.declared.Marks.{Marks}
 use Rattle.marks.proofs.Laws.{lawful-cause, cause-lawful, few-chips}
-use Rattle.code.specs.Block.{Block, Lawful, OneMember, NoMember, TwoMembers}
+use Rattle.code.specs.Block.{Lawful, OneMember, NoMember, TwoMembers}
 use Rattle.code.specs.Labels.{built-in}
 use Rattle.code.proofs.BuiltIn.{built-in-set}
 use Rattle.reading.specs.Allowed.{OfChipKind}
 use Rattle.reading.specs.Reading.{ReadsUnder}
 use Rattle.reading.proofs.Facts.{unchanged, clean-only, clean-lawful}
-use Rattle.block.specs.Read.{read-cause, ReadDone, is-corrected, record-in}
+use Rattle.block.specs.Read.{read-cause, is-corrected, record-in}
 use Rattle.block.specs.Exactly.{Fits, AcceptedExactly, ReadsExactly, CleanExactly}
 use Rattle.block.proofs.Causes.{read-none, read-marks, mend-none, mend-marks, part-whole}
 

@@ -1,8 +1,8 @@
 -- Demand 3, first sentence, and demand 2, second sentence, as statements about every reading that is not refused.
 --
 --   AcceptedExactly   not refused, exactly when
---   ReadsExactly   corrected, "none" and "several", each exactly when
---   CleanExactly   clean exactly for the lawful blocks
+--   ReadsExactly      corrected, "none" and "several", each exactly when
+--   CleanExactly      clean exactly for the lawful blocks
 use mathlib.Core.Logic.{_↔_}
 use mathlib.Core.Path.{_≡_}
 use mathlib.Core.List.{List}

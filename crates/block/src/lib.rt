@@ -1,9 +1,8 @@
 // One block: read under marks into an output, mended where it stands, or only looked at; and the record as a part of the caller's output.
 ghost use mathlib.Core.Path.{_≡_};
 ghost use lib.ListN.{length};
-ghost use Rattle.change.specs.Change.{applied};
 ghost use Rattle.reading.specs.Reading.{reading-answer};
-ghost use Rattle.block.specs.Read.{read-cause, mend-cause, ReadDone, MendDone, LookDone, is-corrected, record-in};
+ghost use Rattle.block.specs.Read.{mend-cause, ReadDone, MendDone, LookDone, is-corrected, record-in};
 
 // 0, or the number that a block's length or the marks give. 1: the block is not 45 bytes; 6, 7: the marks are not lawful.
 fn block_cause(n: usize, m: marks::Marks) -> u8

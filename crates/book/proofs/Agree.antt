@@ -2,13 +2,13 @@
 --
 --   call-agree, step-agree, agree   one call, one entry, any list
 --   one-book      THE STATEMENT
-use Prim.Native.Nat.{ℕ, zero, suc}
+use Prim.Native.Nat.{ℕ}
 use mathlib.Core.Path.{_≡_, refl, sym, ap, ap₂, _∙_}
 use mathlib.Core.List.{List, [], _∷_}
 use lib.ListN.{length}
 use Rattle.answer.specs.Answer.{Answer, but-card}
 use Rattle.answer.proofs.Causes.{by-agree}
-use Rattle.marks.specs.Mark.{mark-cause, marked}
+use Rattle.marks.specs.Mark.{mark-cause}
 use Rattle.reading.proofs.Agree.{under-agree}
 use Rattle.bank.specs.Calls.{clear-cause, put-cause, get-cause, patrol-cause, report-cause}
 use Rattle.bank.proofs.Each.{counts-agree}

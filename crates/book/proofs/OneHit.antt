@@ -9,7 +9,7 @@ use mathlib.Core.Bool.{Bool, _&&_}
 use mathlib.Core.List.{List, [], _∷_, _++_}
 use native.Mathlib.Omega.{arith}
 use lib.Dec.{eqb}
-use lib.ListN.{length, take, replicate, getD, set, length-set, length-replicate}
+use lib.ListN.{length, take, replicate, set, length-set, length-replicate}
 use lib.Seq.{getD-set-same, getD-set-other}
 use borrow.Author.Tests.{eq-eqb}
 use Rattle.base.specs.Base.{if}
@@ -22,8 +22,8 @@ use Rattle.code.specs.Labels.{built-in}
 use Rattle.reading.specs.Allowed.{ChipKind}
 use Rattle.bank.specs.Calls.{put-cause, get-cause}
 use Rattle.bank.proofs.Accepted.{accepts}
-use Rattle.book.specs.Book.{Call, put, get, Entry, call, hit, says, Seen, State, fresh-state, Ran}
-use Rattle.book.specs.Book.{Book, fresh-book, size, marks-of, held-at, with-both, with-held, CallSays, Booked, Step}
+use Rattle.book.specs.Book.{put, get, Entry, call, hit, says, Seen, State, fresh-state, Ran}
+use Rattle.book.specs.Book.{Book, fresh-book, size, marks-of, held-at, with-both, with-held, Booked, Step}
 use Rattle.book.specs.Kept.{good-at, last-put, DamageAllowed, DamageOfChipKind, GivesRecord, OneHit}
 use Rattle.book.proofs.Whole.{whole}
 use Rattle.book.proofs.Calls.{calls-give-last-put}
@@ -38,16 +38,16 @@ one-byte b i x = (i ∷ [], omega arith, λ p l. at p (same p i))
 fresh-lawful : LawfulMarks fresh-marks
 fresh-lawful = record { card = tt; count = omega arith; first = inr (refl, refl); second = inr (omega arith, refl); differ = λ e. absurd (omega arith) }
 
--- the book after the put and the hit, x being the block that was stored
+-- the book after the put and the hit: the block stored, and held with byte i set to x
 abbrev after : ℕ → ℕ → List ℕ → ℕ → ℕ → Book
 after n k good i x = with-held (with-both (fresh-book n) k good) k (set good i x)
 
-module _ (n k : ℕ) (hi : n ≤ 1024) (hk : k < n) (rec out : List ℕ) (lr : length rec ≡ 34) (lo : length out ≡ 45) (i x : ℕ) (h : i < 45) where
+module _ (n k : ℕ) (hi : n ≤ 1024) (hk : k < n) (rec out : List ℕ) (lr : length rec ≡ 34) (lq : length out ≡ 45) (i x : ℕ) (h : i < 45) where
   puts : put-cause (45 * n) k (length rec) ≡ 0
   puts = accepts (45 * n) k (length rec) 45 fresh-marks .put .1 ((n, omega arith, hi, refl), omega arith, lr)
 
   gets : get-cause (45 * n) k fresh-marks (length out) ≡ 0
-  gets = accepts (45 * n) k 34 (length out) fresh-marks .get .1 ((n, omega arith, hi, refl), omega arith, fresh-lawful, lo)
+  gets = accepts (45 * n) k 34 (length out) fresh-marks .get .1 ((n, omega arith, hi, refl), omega arith, fresh-lawful, lq)
 
   hit-then : (b : Book) (y : List ℕ) → b ≡ with-both (fresh-book n) k y
       → with-held b ((45 * k + i) / 45) (set (held-at b ((45 * k + i) / 45)) ((45 * k + i) % 45) x) ≡ after n k y i x
@@ -105,6 +105,6 @@ front : {σ : State} (e₁ e₂ e₃ : Entry) (s t u : Seen) → Ran σ (e₁ �
 front e₁ e₂ e₃ s t u (Ran.then d₁ (Ran.then d₂ r)) = Ran.then d₁ (Ran.then d₂ Ran.end)
 
 pub one-hit : OneHit
-one-hit n k hi hk rec out lr lo i x h s t u r =
-    let v = whole n (omega arith) hi (list n k hi hk rec out lr lo i x h) (s ∷ t ∷ []) (front _ _ _ s t u r) in
-    record-back n k hi hk rec out lr lo i x h s t u r (v .0) (v .1)
+one-hit n k hi hk rec out lr lq i x h s t u r =
+    let v = whole n (omega arith) hi (list n k hi hk rec out lr lq i x h) (s ∷ t ∷ []) (front _ _ _ s t u r) in
+    record-back n k hi hk rec out lr lq i x h s t u r (v .0) (v .1)

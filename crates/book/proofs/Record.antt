@@ -31,8 +31,8 @@ use Rattle.code.proofs.Members.{zero-stored}
 use Rattle.reading.specs.Reading.{S, ReadsUnder}
 use Rattle.reading.proofs.Facts.{chip-one, card-one}
 use Rattle.bank.specs.Calls.{clear-cause, put-cause, get-cause, patrol-cause}
-use Rattle.book.specs.Book.{Call, clear, put, get, patrol, report, mark, Entry, call, hit, says, Seen, Rest, rest-of}
-use Rattle.book.specs.Book.{Book, zero-book, many, size, marks-of, held-at, with-marks, with-held, with-both, CallSays, Step, Booked}
+use Rattle.book.specs.Book.{clear, put, get, patrol, report, mark, Entry, call, hit, says, Seen, Rest, rest-of}
+use Rattle.book.specs.Book.{Book, zero-book, many, size, marks-of, held-at, with-marks, with-held, with-both, Step, Booked}
 use Rattle.book.specs.Kept.{record-after, last-put, good-at, DamageAllowed, DamageOfChipKind, GivesRecord, GetsLastPut}
 use Rattle.book.proofs.Causes.{clear-none, get-none}
 

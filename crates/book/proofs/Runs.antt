@@ -5,11 +5,10 @@
 --   either         a call is refused, and what was lent stays; or it can be done
 --   ..-runs        each kind of entry
 --   any-list       THE STATEMENT
---   any-call, any-hit   nothing more is asked of an entry than that bytes are bytes, and that a hit lies in the bank
-use Prim.Native.Nat.{ℕ, zero, suc, _+_, _-_, _*_, _/_, _≤_, _<_}
+--   any-call, any-hit   nothing more is asked of an entry than that bytes are bytes, and that a hit lies in the bank; any-entries: of a list
+use Prim.Native.Nat.{ℕ, zero, suc, _+_, _-_, _*_, _≤_, _<_}
 use mathlib.Core.Path.{_≡_, refl, sym, ap, _∙_, subst}
 use mathlib.Core.List.{List, [], _∷_, _++_}
-use mathlib.Core.Logic.{_⊎_, inl, inr}
 use native.Mathlib.Decide.{decLt, ℕ-discrete}
 use native.Mathlib.Omega.{arith}
 use lib.ListN.{length, getD, set, take, drop, replicate, length-append, length-take, length-drop}
@@ -17,7 +16,7 @@ use lib.ListN.{length-set, length-replicate, getD-replicate, List·getD-append}
 use lib.Seq.{getD-append-add, getD-take, getD-drop, getD-set-same, getD-set-other}
 use Rattle.answer.specs.Answer.{Answer, done, clean, in-chips, in-card, counted, refused, refused-card, By}
 use Rattle.answer.proofs.Causes.{by-map}
-use Rattle.marks.specs.Marks.{fresh-marks, marks-cause, marked-chips}
+use Rattle.marks.specs.Marks.{marks-cause, marked-chips}
 use Rattle.marks.specs.Mark.{mark-cause, marked, MarkDone}
 use Rattle.marks.specs.declared.Marks.{Marks}
 use Rattle.marks.proofs.Laws.{cause-lawful, few-chips}
@@ -28,7 +27,7 @@ use Rattle.code.proofs.Stored.{stored-exists}
 use Rattle.reading.specs.Reading.{ReadsUnder}
 use Rattle.reading.proofs.Exists.{reads-exist}
 use Rattle.bank.specs.Calls.{blocks, block, with-block, clear-cause, put-cause, get-cause, patrol-cause, report-cause}
-use Rattle.bank.specs.Calls.{ClearDone, PutDone, GetDone, PatrolDone, ReportDone, EachReads, CountsEach, totals}
+use Rattle.bank.specs.Calls.{ClearDone, PatrolDone, EachReads, CountsEach, totals}
 use Rattle.book.specs.Book.{Call, clear, put, get, patrol, report, mark, Entry, call, hit}
 use Rattle.book.specs.Book.{State, says, nothing-said, Seen, state, seen, rest-of, fresh-state}
 use Rattle.book.specs.Book.{EntryDone, Ran, Bytes, Possible, AllPossible, AnyList}
@@ -221,3 +220,7 @@ any-call n (mark c) h = tt
 
 pub any-hit : (n i x : ℕ) → i < 45 * n → x < 256 → Possible n (hit i x)
 any-hit n i x l h = (l, h)
+
+-- and of a list no more than of its entries
+pub any-entries : (n : ℕ) → AllPossible n [] × ((e : Entry) (es : List Entry) → Possible n e → AllPossible n es → AllPossible n (e ∷ es))
+any-entries n = (tt, λ e es p ps. (p, ps))

@@ -7,10 +7,10 @@
 --   step, whole-from one entry of any kind; any list
 --   whole            THE STATEMENT
 use Prim.Native.Nat.{ℕ, zero, suc, _+_, _*_, _/_, _%_, _<_}
-use mathlib.Core.Path.{_≡_, refl, sym, ap, _∙_, subst}
+use mathlib.Core.Path.{_≡_, refl, ap, _∙_, subst}
 use mathlib.Core.List.{List, [], _∷_}
 use native.Mathlib.Omega.{arith}
-use lib.ListN.{length, set, replicate, length-set}
+use lib.ListN.{length, set, length-set}
 use Rattle.answer.specs.Answer.{Answer, done, clean, in-chips, in-card, counted, refused, refused-card, By}
 use Rattle.answer.proofs.Causes.{by-map}
 use Rattle.marks.specs.Marks.{fresh-marks}
@@ -20,10 +20,10 @@ use Rattle.marks.specs.declared.MarkCall.{MarkCall}
 use Rattle.code.specs.Block.{OneMember, Stored, zeros}
 use Rattle.code.specs.Labels.{built-in}
 use Rattle.reading.specs.Reading.{ReadsUnder}
-use Rattle.bank.specs.Calls.{blocks, block, with-block, clear-cause, put-cause, get-cause, patrol-cause, report-cause}
+use Rattle.bank.specs.Calls.{block, with-block, clear-cause, put-cause, get-cause, patrol-cause, report-cause}
 use Rattle.bank.specs.Calls.{ClearDone, PutDone, GetDone, PatrolDone, ReportDone}
 use Rattle.book.specs.Book.{Call, clear, put, get, patrol, report, mark, Entry, call, hit}
-use Rattle.book.specs.Book.{Rest, State, Said, says, nothing-said, Seen, state, seen, rest-of, fresh-state}
+use Rattle.book.specs.Book.{State, says, Seen, state, seen, rest-of, fresh-state}
 use Rattle.book.specs.Book.{CallDone, EntryDone, Ran, Book, zero-book, fresh-book, flat, state-of}
 use Rattle.book.specs.Book.{many, size, marks-of, held-at, with-marks, with-held, with-both}
 use Rattle.book.specs.Book.{CallSays, Step, Booked, WholeList}

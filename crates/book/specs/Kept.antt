@@ -5,7 +5,7 @@
 --   GivesRecord      the record, or "several", and when not "several"
 --   GetsLastPut      the statement, of the book. It has no clause on patrols: damage that is allowed at the get is enough
 --   CallsGiveLastPut the statement, of every list of calls and every book that the list gives
---   OneHit           lists of which it says so
+--   OneHit           lists that meet its premises, and what it says of them
 use Prim.Native.Nat.{ℕ, _+_, _*_, _≤_, _<_}
 use mathlib.Core.Path.{_≡_}
 use mathlib.Core.Bool.{_&&_}
@@ -19,7 +19,7 @@ use Rattle.marks.specs.Marks.{marked-chips}
 use Rattle.marks.specs.declared.CardMark.the-variants.{None}
 use Rattle.reading.specs.Allowed.{Allowed, OfChipKind}
 use Rattle.bank.specs.Calls.{put-cause, get-cause}
-use Rattle.book.specs.Book.{Call, clear, put, get, patrol, report, mark, Entry, call, hit, says, Seen, fresh-state, Ran}
+use Rattle.book.specs.Book.{clear, put, get, patrol, report, mark, Entry, call, hit, says, Seen, fresh-state, Ran}
 use Rattle.book.specs.Book.{Book, fresh-book, marks-of, held-at, Booked, Step}
 
 -- the record in block k after an entry, in a bank of n blocks

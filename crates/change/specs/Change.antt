@@ -4,7 +4,7 @@
 --   applied b d   the block b with d made in it; bytes that are no block stay as they are
 --   no-change     the change that adds nothing
 --   weight d      how many of its eleven places add something
---   WellFormed    its card is a card, and its further positions are two different ones off that card
+--   WellFormed    its card is a card, and where it adds something further, that is at two different positions off that card
 --   Counted       n is the number of bytes that d changes
 --   Added         a step in which a change is made: x added at one position; RowsAdded: nine rows added to card j
 use mathlib.Core.Path.{_≡_}

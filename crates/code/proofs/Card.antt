@@ -123,7 +123,7 @@ module _ (w : ℕ) (_·_ : ℕ → ℕ → ℕ) (F : IsField w _·_) (ls : List 
       own i = squared _·_ t (byte ls (position j i))
 
   -- the rows' share of a reduced sum, where the rows are met
-  no-share : (t j : ℕ) (y : ℕ → ℕ) → ((i : ℕ) → i < 9 → row y i ≡ 0) → red _·_ ls t j y ≡ rule _·_ ls t y
+  pub no-share : (t j : ℕ) (y : ℕ → ℕ) → ((i : ℕ) → i < 9 → row y i ≡ 0) → red _·_ ls t j y ≡ rule _·_ ls t y
   no-share t j y rows =
       red-sum t j y
       ∙ ap (λ (x : ℕ). rule _·_ ls t y ⊕ x)

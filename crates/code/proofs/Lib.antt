@@ -6,7 +6,9 @@ pub mod Card
 pub mod Solve
 pub mod Blocks
 pub mod Reach
+pub mod Onto
 pub mod Closed
 pub mod Unique
 pub mod Members
 pub mod Stored
+pub mod Tied

@@ -8,7 +8,7 @@
 --   block-of f        the 45 bytes f 0, .., f 44
 --   DifferOnly P b x  b and x differ only at positions of P
 --   changes b x       how many bytes differ
---   Stored r x        x is a lawful block that begins with the record r
+--   Stored labels r x x is a lawful block that begins with the record r
 --   OneMember P x     x is the one member of the set P; NoMember, TwoMembers: it has none, at least two
 use mathlib.Core.Path.{_≡_}
 use mathlib.Core.Bool.{not}

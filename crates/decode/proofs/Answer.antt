@@ -3,10 +3,10 @@
 --   refusal, correction         the two ways in which an answer comes about
 --   alone-counted               how many bytes a card's rows are; known-beside: what is known of a block beside a card
 --   unlawful-decodes, lawful-decodes   the contract, from the marks' cause
-use mathlib.Core.Logic.{_≢_, _⊎_, inl, inr}
+use mathlib.Core.Logic.{_≢_}
 use mathlib.Core.Path.{_≡_, refl, sym, ap, _∙_, subst}
 use mathlib.Core.List.{List}
-use Prim.Native.Nat.{ℕ, zero, suc, _+_, _<_}
+use Prim.Native.Nat.{ℕ}
 use native.Mathlib.Omega.{arith}
 use Rattle.base.specs.Base.{tally}
 use Rattle.answer.specs.Answer.{number, refused}
@@ -15,7 +15,7 @@ use Rattle.marks.specs.Marks.{marked-chips, marks-cause}
 use Rattle.marks.specs.declared.CardMark.{CardMark}
 use Rattle.marks.specs.declared.Marks.{Marks}
 use Rattle.marks.proofs.Laws.{lawful-cause}
-use Rattle.sums.specs.Sums.{rows-of, ReducedSums}
+use Rattle.sums.specs.Sums.{rows-of}
 use Rattle.sums.specs.declared.Sums.{Sums}
 use Rattle.change.specs.Change.{applied, no-change, nonzero-at, weight}
 use Rattle.change.specs.declared.Change.{Change}

@@ -9,21 +9,20 @@ use mathlib.Core.Logic.{_≢_, _⊎_, inl, inr}
 use mathlib.Core.Path.{_≡_, refl, sym, ap, ap₂, _∙_, subst}
 use mathlib.Core.Bool.{Bool, true, false, _&&_}
 use mathlib.Core.List.{List, [], _∷_}
-use Prim.Native.Nat.{ℕ, zero, suc, _+_, _*_, _/_, _%_, _^_, _<_}
+use Prim.Native.Nat.{ℕ, _/_, _%_, _^_, _<_}
 use native.Mathlib.Omega.{arith}
-use lib.Dec.{T, eqb, eqb→eq}
-use borrow.Author.Tests.{eqb-true, eqb-false, eq-eqb, ne-eqb}
+use lib.Dec.{T, eqb}
+use borrow.Author.Tests.{eq-eqb, ne-eqb}
 use lib.ListN.{length, getD, set, length-set}
 use lib.Seq.{getD-set-same, getD-set-other}
-use Rattle.base.specs.Base.{if, In}
+use Rattle.base.specs.Base.{if}
 use Rattle.base.proofs.Tests.{both, same}
 use Rattle.field.specs.Field.{sum, _⊕_, _·_}
 use Rattle.field.proofs.Xor.{add-zero, sums}
 use Rattle.field.proofs.Sum.{sum-add, sum-ext, sum-zero, sum-one}
 use Rattle.field.proofs.Squares.{squared}
-use Rattle.field.proofs.Gf256.{field}
-use Rattle.code.specs.Block.{byte, position, Block, block-of}
-use Rattle.code.specs.Labels.{entry, LabelSet}
+use Rattle.code.specs.Block.{byte, position, block-of}
+use Rattle.code.specs.Labels.{entry}
 use Rattle.code.specs.Reach.{Beside, Reached}
 use Rattle.code.proofs.Card.{row, fill}
 use Rattle.code.proofs.Reach.{fits, closed, candidate, reached}
@@ -32,7 +31,7 @@ use Rattle.code.proofs.Blocks.{same-block, block-of-at, block-of-length}
 use Rattle.change.specs.Change.{adds, applied}
 use Rattle.change.specs.declared.Change.{Change}
 use Rattle.change.proofs.Made.{applied-long, applied-at}
-use Rattle.decode.specs.Equations.{KnownAt, fits-by, rows-only, Within, Solves}
+use Rattle.decode.specs.Equations.{KnownAt, fits-by, rows-only, Solves}
 
 -- ---- rows
 row-patch : (y : ℕ → ℕ) (p e i : ℕ) → p < 45 → i < 9 → row (patch y p e) i ≡ row y i ⊕ if (eqb i (p % 9)) e 0

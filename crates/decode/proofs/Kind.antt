@@ -24,7 +24,7 @@ use Rattle.code.specs.Reach.{Beside}
 use Rattle.code.proofs.Few.{beside-in}
 use Rattle.change.specs.Change.{adds, applied, nonzero-at, WellFormed}
 use Rattle.change.specs.declared.Change.{Change}
-use Rattle.change.proofs.Weight.{zero-not, nonzero-is, nonzero-ne, same-at, other-at, on-card, off-card}
+use Rattle.change.proofs.Weight.{nonzero-is, nonzero-ne, same-at, other-at, on-card, off-card}
 use Rattle.reading.specs.Allowed.{further, ChipKind, CardChanged}
 use Rattle.reading.specs.declared.Kind.{Kind}
 use Rattle.reading.specs.declared.Kind.the-variants.{Chips, OneCard}

@@ -8,10 +8,10 @@
 --   one-more                    what holds below i and at i holds below i + 1
 --   further-none, further-off   no chip has the entry that the sums ask for; this one has it
 use mathlib.Core.Logic.{_≢_, _⊎_, inl, inr}
-use mathlib.Core.Path.{_≡_, refl, sym, ap, ap₂, _∙_, subst}
-use mathlib.Core.Bool.{Bool, true, false, _&&_}
+use mathlib.Core.Path.{_≡_, sym, ap, _∙_, subst}
+use mathlib.Core.Bool.{Bool, true, _&&_}
 use mathlib.Core.List.{List, [], _∷_}
-use Prim.Native.Nat.{ℕ, zero, suc, _+_, _*_, _/_, _%_, _^_, _<_, _≤_}
+use Prim.Native.Nat.{ℕ, _+_, _*_, _/_, _%_, _^_, _<_}
 use native.Mathlib.Omega.{arith}
 use lib.Dec.{eqb}
 use borrow.Author.Tests.{eq-eqb, ne-eqb, eqb-true}
@@ -19,17 +19,15 @@ use Rattle.base.proofs.Tests.{same}
 use Rattle.field.specs.Field.{_⊕_, _·_}
 use Rattle.field.proofs.IsField.{IsField}
 use Rattle.field.proofs.Gf256.{field}
-use Rattle.field.proofs.Ring.{ring, mul-zero, zero-mul}
+use Rattle.field.proofs.Ring.{ring}
 use Rattle.field.proofs.Xor.{add-self, add-lt}
 use Rattle.code.specs.Block.{byte}
 use Rattle.code.specs.Labels.{entry, LabelSet}
-use Rattle.code.specs.Reach.{Beside}
 use Rattle.field.proofs.Quotient.{quot-only}
 use Rattle.code.proofs.Blocks.{label-below}
 use Rattle.marks.specs.Marks.{chips-of}
 use Rattle.marks.proofs.Chips.{chips-many}
-use Rattle.change.specs.declared.Change.{Change}
-use Rattle.decode.specs.Equations.{fits-by, Solves, ChipOn, Further}
+use Rattle.decode.specs.Equations.{fits-by, Further}
 
 -- ---- quotients
 module _ (_∗_ : ℕ → ℕ → ℕ) (F : IsField 8 _∗_) where

@@ -23,7 +23,8 @@ pub decode-asks : (κs : Lifetimes.Lfts 0) (a : World.ArgsD decode.signature κs
 decode-asks κs a = tt
 
 pub apply-tied : (κs : Lifetimes.Lfts 1) (a : World.ArgsD apply.signature κs) (r : World.ResD apply.signature κs)
-    (s : Clauses.AtExit (Kinds.endedOf 1 apply-kinds.ps apply-kinds.r) κs) → apply-reads.Learnt κs a r s → now (s .1 .0) ≡ applied (now (a .1 .0)) (a .0 .change)
+    (s : Clauses.AtExit (Kinds.endedOf 1 apply-kinds.ps apply-kinds.r) κs) → apply-reads.Learnt κs a r s
+    → now (s .1 .0) ≡ applied (now (a .1 .0)) (a .0 .change)
 apply-tied κs a r s l = l
 
 pub apply-asks : (κs : Lifetimes.Lfts 1) (a : World.ArgsD apply.signature κs) → apply-reads.Asked κs a

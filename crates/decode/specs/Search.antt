@@ -9,7 +9,6 @@
 --   chips-kind    the kind of a chip-kind change of n bytes; card-kind: of a change beside a marked card, own being its bytes on that card
 use mathlib.Core.Path.{_≡_}
 use mathlib.Core.Bool.{Bool, true, false, _&&_, not}
-use mathlib.Core.Logic.{_≢_}
 use mathlib.Core.List.{List, []}
 use Prim.Native.Nat.{ℕ, zero, suc, _+_, _*_, _<_}
 use Rattle.base.specs.Base.{is-in, tally}

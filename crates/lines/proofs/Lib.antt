@@ -3,3 +3,4 @@ pub mod Pieces
 pub mod PerThousand
 pub mod Samples
 pub mod Lengths
+pub mod Tied

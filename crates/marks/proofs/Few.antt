@@ -3,7 +3,7 @@
 --   places-few, -count, -back  the chips of places within their ranges: few; as many as the count; the record of them
 --   few-lawful                 a record of few chips is lawful; kept: and has those chips
 --   added, removed             few chips with one more; with one taken out
---   added-in, removed-out      the one more is there; the one taken out is not
+--   added-in, removed-out      the one more is there; the one taken out is not; removed-in: what is left was there
 use Prim.Native.Nat.{ℕ, zero, suc, _≤_, _<_}
 use mathlib.Core.Path.{_≡_, refl, sym, subst}
 use mathlib.Core.Logic.{inl, inr, _≢_}

@@ -2,20 +2,22 @@
 --
 --   left-in           what is not taken out of a list stays in it
 --   mark-accepted, mark-leaves   THE STATEMENTS
-use Prim.Native.Nat.{ℕ, _<_}
-use mathlib.Core.Path.{_≡_, refl, sym, _∙_}
+--   mark-decided      two outcomes of a call on one record are the same
+use Prim.Native.Nat.{ℕ}
+use mathlib.Core.Path.{_≡_, refl, sym, ap, _∙_}
 use mathlib.Core.Logic.{_≢_, inl, inr}
 use mathlib.Core.Bool.{Bool, true, false, not, true≢false}
 use mathlib.Core.List.{List, [], _∷_, _++_}
 use native.Mathlib.Omega.{arith}
 use lib.Dec.{eqb}
-use lib.ListN.{length}
 use borrow.Author.Tests.{ltb-true, lt-ltb, eqb-true, eqb-false, ne-eqb, not-false}
-use Rattle.base.specs.Base.{if, In, is-in}
+use Rattle.answer.specs.Answer.{Answer, but-card}
+use Rattle.answer.proofs.Causes.{Agreed, by-agree}
+use Rattle.base.specs.Base.{if, In}
 use Rattle.base.proofs.Few.{few-in, few-length}
 use Rattle.base.proofs.Lists.{in-is-in, is-in-in}
 use Rattle.marks.specs.Marks.{marked-chips, is-marked, LawfulMarks}
-use Rattle.marks.specs.Mark.{of-chips, remove, marked, card-is, some-card, mark-cause, MayAsk, MarkAccepted, MarkLeaves}
+use Rattle.marks.specs.Mark.{of-chips, remove, marked, some-card, mark-cause, MarkDone, MayAsk, MarkAccepted, MarkLeaves}
 use Rattle.marks.specs.declared.CardMark.{CardMark}
 use Rattle.marks.specs.declared.CardMark.the-variants.{None, Card}
 use Rattle.marks.specs.declared.Marks.{Marks}
@@ -34,14 +36,14 @@ a-card None e = absurd (true≢false e)
 a-card (Card j) e = (j, refl)
 
 -- ---- when it is not refused
-asks : (m : Marks) (c : MarkCall) → Can m c → MayAsk m c
+to-ask : (m : Marks) (c : MarkCall) → Can m c → MayAsk m c
 unfolding is-marked
-asks m (PlaceChip p) h =
+to-ask m (PlaceChip p) h =
     let room = eqb-false (m .count) 2 (h .room) in
     (ltb-true p 45 (h .asked), unmarked m p (h .new), omega (arith, chips-counted m (h .lawful), h .lawful .count, room))
-asks m (LiftChip p) h = is-in-in p (marked-chips m) (not-false _ (h .there))
-asks m (PlaceCard j) h = (ltb-true j 5 (h .asked), no-card (m .card) (h .room))
-asks m LiftCard h = a-card (m .card) (h .there)
+to-ask m (LiftChip p) h = is-in-in p (marked-chips m) (not-false _ (h .there))
+to-ask m (PlaceCard j) h = (ltb-true j 5 (h .asked), no-card (m .card) (h .room))
+to-ask m LiftCard h = a-card (m .card) (h .there)
 
 may : (m : Marks) (c : MarkCall) → LawfulMarks m → MayAsk m c → Can m c
 unfolding is-marked
@@ -63,7 +65,7 @@ may m (PlaceCard j) l (h, e) = record { lawful = l; asked = lt-ltb j 5 h; new = 
 may m LiftCard l (j, e) = record { lawful = l; asked = refl; new = refl; room = refl; there = rw e refl }
 
 pub mark-accepted : MarkAccepted
-mark-accepted m c = ((λ e. let h = can m c e in (h .lawful, asks m c h)), λ h. mark-can m c (may m c (h .0) (h .1)))
+mark-accepted m c = ((λ e. let h = can m c e in (h .lawful, to-ask m c h)), λ h. mark-can m c (may m c (h .0) (h .1)))
 
 -- ---- which marks stand after it
 left-in : (p q : ℕ) (l : List ℕ) → In q l → q ≢ p → In q (remove p l)
@@ -94,3 +96,8 @@ mark-leaves m (LiftChip p) e =
     (card-of (m .card) r, λ q. rw is ((λ i. (removed-in p q l i, λ z. removed-out 2 p l f (rw z at i))), λ h. left-in p q l (h .0) (h .1)))
 mark-leaves m (PlaceCard j) e = (refl, refl)
 mark-leaves m LiftCard e = (refl, refl)
+
+-- ---- what it does is decided
+pub mark-decided : (m : Marks) (c : MarkCall) (a a′ : Answer) (x x′ : Marks) → MarkDone m c a x → MarkDone m c a′ x′ → Agreed a a′ x x′
+unfolding MarkDone
+mark-decided m c a a′ x x′ w v = by-agree (mark-cause m c) a a′ m x x′ _ _ w v (λ d d′. (ap but-card (d .0 ∙ sym (d′ .0)), d .1 ∙ sym (d′ .1)))

@@ -14,7 +14,7 @@ use lib.Dec.{eqb, ltb}
 use lib.ListN.{length}
 use Rattle.base.specs.Base.{if, In}
 use Rattle.answer.specs.Answer.{Answer, done, By}
-use Rattle.answer.specs.Cause.{Cause, cause, lowest}
+use Rattle.answer.specs.Cause.{cause, lowest}
 use Rattle.marks.specs.Marks.{marked-chips, LawfulMarks, in-range, two-equal, is-marked}
 use Rattle.marks.specs.declared.CardMark.{CardMark}
 use Rattle.marks.specs.declared.CardMark.the-variants.{None, Card}

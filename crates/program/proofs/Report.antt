@@ -11,7 +11,7 @@ use mathlib.Core.List.{List, [], _∷_, _++_}
 use Prim.Native.Nat.{ℕ, zero, suc, _≤_}
 use native.Mathlib.Omega.{arith}
 use lib.ListN.{length}
-use Rattle.answer.specs.Answer.{Answer, counted, refused, By}
+use Rattle.answer.specs.Answer.{counted, refused, By}
 use Rattle.answer.specs.Cause.{cause, lowest}
 use Rattle.answer.proofs.Causes.{Holds, lowest-is, none-holds}
 use Rattle.marks.specs.Marks.{marks-causes, marks-cause}

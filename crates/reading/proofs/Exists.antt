@@ -14,13 +14,13 @@ use native.Mathlib.Decide.{decLt}
 use native.Mathlib.Omega.{arith}
 use lib.Dec.{T, eqb}
 use lib.ListN.{length}
-use borrow.Author.Tests.{eqb-true, eqb-false, eq-eqb, ne-eqb}
+use borrow.Author.Tests.{eq-eqb, ne-eqb}
 use Rattle.base.specs.Base.{In, is-in, tally, Few}
 use Rattle.base.proofs.Tests.{same, find}
 use Rattle.base.proofs.Lists.{in-is-in, is-in-in}
 use Rattle.base.proofs.Tally.{clash, tally-none, tally-one, tally-some, tally-two}
 use Rattle.answer.specs.Answer.{Answer, clean, in-chips, in-card, refused, refused-card}
-use Rattle.code.specs.Block.{byte, Block, Lawful, changes, OneMember, NoMember, TwoMembers}
+use Rattle.code.specs.Block.{byte, Block, changes, OneMember}
 use Rattle.code.specs.Labels.{LabelSet}
 use Rattle.code.specs.Reach.{rules, keep, Reached}
 use Rattle.code.proofs.Blocks.{same-block}
@@ -28,7 +28,7 @@ use Rattle.code.proofs.Reach.{fits, closed, candidate-few, reached-few}
 use Rattle.marks.specs.Marks.{CardInRange}
 use Rattle.marks.specs.declared.CardMark.{CardMark}
 use Rattle.marks.specs.declared.CardMark.the-variants.{None, Card}
-use Rattle.reading.specs.Allowed.{further, ChipKind, CardKind, CardChanged, OfChipKind}
+use Rattle.reading.specs.Allowed.{further, ChipKind, CardChanged, OfChipKind}
 use Rattle.reading.specs.Reading.{S, OnCard, Reads}
 use Rattle.reading.proofs.Searches.{further-one, covered, covers, beside-chips, beside-few, covered-beside, covers-beside}
 use Rattle.reading.proofs.Facts.{card-one}

@@ -6,7 +6,8 @@
 --   never-none   with two chip marks and no card mark S is never empty
 --   reaches      any card may be given with 11 that reaches a lawful block; reached-by: and only such a card
 --   unchanged    a change of no byte is of the chip kind
---   card-told    under a card mark "card" is said where a byte of that card is changed, and with its number; chips-told: "chips" where none is
+--   by-card      under a card mark "card", with its number, is said where a byte of that card is changed; card-told: and only there;
+--                chips-told: "chips" only where none is
 --   clean-only   a lawful block is the one member of its S; clean-reads: it reads as clean; clean-lawful: only such a block does
 use mathlib.Core.Logic.{_≢_, _⊎_, inl, inr}
 use mathlib.Core.Path.{_≡_, refl, sym, ap, _∙_, subst}
@@ -19,7 +20,7 @@ use borrow.Author.Tests.{ne-eqb}
 use Rattle.base.proofs.Few.{few-length, few-more}
 use Rattle.base.specs.Base.{In, Few}
 use Rattle.base.proofs.Tests.{same}
-use Rattle.answer.specs.Answer.{clean, in-chips, in-card}
+use Rattle.answer.specs.Answer.{Answer, done, clean, in-chips, in-card, counted, refused, refused-card, number}
 use Rattle.code.specs.Block.{byte, Block, Lawful, DifferOnly, OneMember}
 use Rattle.code.specs.Labels.{LabelSet}
 use Rattle.code.specs.Reach.{rules, keep, Reached}
@@ -164,6 +165,15 @@ clean-lawful ls c ps b out out′ h = subst (Lawful ls) (h .1) (h .0 .0 .lawful)
 module _ (ls : List ℕ) (j : ℕ) (ps b out out′ : List ℕ) where
   pub card-told : (i n : ℕ) → Reads ls (Card j) ps b out (in-card i n) out′ → (i ≡ j) × ((CardChanged j b out′ → ⊥) → ⊥)
   card-told i n h = (h .3, λ none. h .2 (h .0 .0 .allowed, none))
+
+  pub by-card : (a : Answer) → Reads ls (Card j) ps b out a out′ → number a ≡ 0 → CardChanged j b out′ → (n : ℕ) × (a ≡ in-card j n)
+  by-card clean h e (p, l, q, ne) = absurd (ne (ap (λ (x : List ℕ). byte x p) (sym (h .1))))
+  by-card (in-chips n) h e c = absurd (h .3 .1 c)
+  by-card (in-card i n) h e c = (n, ap (λ (k : ℕ). in-card k n) (h .3))
+  by-card (refused n) h e c = absurd (omega (arith, h .0, e))
+  by-card (refused-card n i) h e c = absurd (omega (arith, h .0, e))
+  by-card done h e c = absurd h
+  by-card (counted v w x y z) h e c = absurd h
 
   pub chips-told : (n : ℕ) → Reads ls (Card j) ps b out (in-chips n) out′ → CardChanged j b out′ → ⊥
   chips-told n h = h .3 .1

@@ -5,7 +5,7 @@
 --   beside-chips                    the chips of a search beside a marked card: the marked ones, or with none marked one further chip
 --   covered-beside, covers-beside   with a card marked: what those searches reach
 use mathlib.Core.Logic.{_⊎_, inl, inr}
-use mathlib.Core.Path.{_≡_, refl, ap, subst}
+use mathlib.Core.Path.{_≡_, ap, subst}
 use mathlib.Core.List.{List, [], _∷_}
 use Prim.Native.Nat.{ℕ, zero, suc, _/_, _<_, _≤_}
 use native.Mathlib.Decide.{decLt}
@@ -13,11 +13,11 @@ use native.Mathlib.Omega.{arith}
 use lib.ListN.{length}
 use Rattle.base.proofs.Few.{few-one}
 use Rattle.base.specs.Base.{In, Few}
-use Rattle.code.specs.Block.{Block, Lawful, DifferOnly}
+use Rattle.code.specs.Block.{DifferOnly}
 use Rattle.code.specs.Reach.{rules, Reached}
 use Rattle.code.proofs.Few.{widen}
 use Rattle.marks.specs.declared.CardMark.the-variants.{None, Card}
-use Rattle.reading.specs.Allowed.{further, ChipKind, CardKind, BesideKind, Allowed}
+use Rattle.reading.specs.Allowed.{further, BesideKind, Allowed}
 use Rattle.reading.specs.Reading.{S}
 
 -- at most one further chip

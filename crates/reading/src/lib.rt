@@ -11,7 +11,8 @@ pub enum Kind {
 
 pub enum Reading {
     Corrected(Kind),
-    // 11: more than one lawful block differs from the one read as the marks allow. The card is one whose change reaches a lawful block.
+    // 11: more than one lawful block differs from the one read as the marks allow. With the card's change, and
+    // one of marked chips, a lawful block is reached.
     Several(u8),
     // The number of the cause; 10: no lawful block does.
     Refused(u8),

@@ -9,10 +9,10 @@
 use mathlib.Core.Logic.{_≢_}
 use mathlib.Core.Path.{_≡_, refl, sym, ap, ap₂, _∙_, subst}
 use mathlib.Core.List.{List}
-use Prim.Native.Nat.{ℕ, _/_, _<_, _^_}
+use Prim.Native.Nat.{ℕ, _<_, _^_}
 use native.Mathlib.Omega.{arith}
 use Rattle.field.specs.Field.{sum, _⊕_, _·_, polynomial-product, remainder, product}
-use Rattle.field.proofs.Xor.{add-self, add-lt, eq-of-sum}
+use Rattle.field.proofs.Xor.{add-lt, eq-of-sum}
 use Rattle.field.proofs.IsField.{IsField}
 use Rattle.field.proofs.Gf256.{field}
 use Rattle.field.proofs.Ring.{ring, zero-divisor}

@@ -5,21 +5,20 @@
 --   begun        the record copied in, two zeros, and card 4
 --   added-at, in-row-at, in-row-length   a block after an amount is added at a place, and at two places of a row
 use mathlib.Core.Logic.{_≢_, _⊎_, inl, inr}
-use mathlib.Core.Path.{_≡_, refl, sym, ap, ap₂, _∙_, subst}
+use mathlib.Core.Path.{_≡_, sym, ap, ap₂, _∙_, subst}
 use mathlib.Core.Bool.{Bool}
 use mathlib.Core.List.{List}
 use Prim.Native.Nat.{ℕ, _+_, _*_, _<_, _≤_}
-use native.Mathlib.Decide.{decLt}
 use native.Mathlib.Omega.{arith}
 use lib.Dec.{eqb}
-use lib.ListN.{length, getD, set, length-set, List·getD-eq-default}
+use lib.ListN.{length, set, length-set, List·getD-eq-default}
 use lib.Seq.{getD-set-same, getD-set-other}
 use borrow.Author.Count.{below-more}
 use borrow.Author.Tests.{eq-eqb, ne-eqb}
 use Rattle.base.proofs.Tests.{same}
 use Rattle.field.specs.Field.{_⊕_, sum}
 use Rattle.field.proofs.Xor.{add-zero, sums}
-use Rattle.code.specs.Block.{byte, position}
+use Rattle.code.specs.Block.{byte}
 use Rattle.base.specs.Base.{if}
 use Rattle.store.specs.Steps.{chip-sum, Copied, Filled, Begun, added, in-row}
 

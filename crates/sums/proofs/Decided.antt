@@ -3,14 +3,13 @@
 --   one-sums                   a block has one set of sums
 --   word-decided, sums-decided
 use Prim.Native.Nat.{ℕ, _<_}
-use mathlib.Core.Path.{_≡_, refl, sym, ap, ap₂, _∙_}
+use mathlib.Core.Path.{_≡_, sym, ap₂, _∙_}
 use mathlib.Core.Logic.{_≢_, _⊎_, inl, inr}
 use mathlib.Core.List.{List}
 use native.Mathlib.Omega.{arith}
 use lib.ListN.{length}
 use Rattle.base.proofs.Tests.{same}
-use Rattle.code.specs.Block.{byte, position}
-use Rattle.sums.specs.Words.{byte-of}
+use Rattle.code.specs.Block.{byte}
 use Rattle.sums.specs.Sums.{rows-of, IsSums, BlockWord, BlockSums}
 use Rattle.sums.specs.declared.Sums.{Sums}
 use Rattle.sums.proofs.Bytes.{same-bytes}

@@ -5,4 +5,5 @@ pub mod Zero
 pub mod Fold
 pub mod Syndrome
 pub mod Decided
+pub mod Onto
 pub mod Tied

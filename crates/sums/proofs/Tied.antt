@@ -46,7 +46,8 @@ pub gather-asks : (κs : Lifetimes.Lfts 1) (a : World.ArgsD gather.signature κs
 gather-asks κs a = tt
 
 pub card-word-tied : (κs : Lifetimes.Lfts 0) (a : World.ArgsD card-word.signature κs) (r : World.ResD card-word.signature κs)
-    (s : Clauses.AtExit (Kinds.endedOf 0 card-word-kinds.ps card-word-kinds.r) κs) → card-word-reads.Learnt κs a r s → r ≡ gathered (a .0) 0 (spread built-in) (a .1 .0)
+    (s : Clauses.AtExit (Kinds.endedOf 0 card-word-kinds.ps card-word-kinds.r) κs) → card-word-reads.Learnt κs a r s
+    → r ≡ gathered (a .0) 0 (spread built-in) (a .1 .0)
 card-word-tied κs a r s l = l
 
 pub card-word-asks : (κs : Lifetimes.Lfts 0) (a : World.ArgsD card-word.signature κs) → card-word-reads.Asked κs a

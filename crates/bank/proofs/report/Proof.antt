@@ -1,6 +1,5 @@
 -- The five totals that the loop has counted are those of the bank.
-use mathlib.Core.Path.{_≡_, refl, sym, _∙_}
-use native.Mathlib.Omega.{arith}
+use mathlib.Core.Path.{refl, sym, _∙_}
 use Rattle.bank.proofs.Causes.{report-is, by-first, by-second, sized}
 use Rattle.bank.proofs.Done.{report-refused, report-done}
 use borrow.Author.Needs.{needs}

@@ -1,11 +1,10 @@
 -- By cases: every kind of a corrected block counts as corrected, and no other answer does.
-use mathlib.Core.Path.{_≡_, refl, sym, ap, _∙_}
+use mathlib.Core.Path.{_≡_, refl}
 use mathlib.Core.Bool.{true}
 use borrow.Author.Needs.{needs}
 use Rattle.reading.specs.Reading.{reading-answer}
 use Rattle.reading.specs.declared.Kind.{Kind}
 use Rattle.reading.specs.declared.Kind.the-variants.{Clean, Chips, OneCard}
-use Rattle.reading.specs.declared.Reading.{Reading}
 use Rattle.reading.specs.declared.Reading.the-variants.{Corrected}
 use Rattle.block.specs.Read.{is-corrected}
 use Rattle.block.proofs.was_corrected.Statement.{statement}

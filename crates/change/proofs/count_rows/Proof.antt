@@ -1,6 +1,6 @@
 -- Nine rows counted by a loop. Invariant: n is how many of the rows passed are not 0.
 use mathlib.Core.Path.{_≡_, refl}
-use Prim.Native.Nat.{ℕ, _≤_, _-_}
+use Prim.Native.Nat.{_≤_, _-_}
 use lib.ListN.{getD}
 use Rattle.base.specs.Base.{tally}
 use Rattle.base.proofs.Tally.{count-more}

@@ -1,10 +1,9 @@
 -- No chip marked beside the card: where the first sum is 0 the card alone can be wrong; else one chip by the quotient of the sums.
-use mathlib.Core.Path.{_≡_, refl, sym, ap, _∙_, subst}
+use mathlib.Core.Path.{_≡_, sym, ap, _∙_, subst}
 use mathlib.Core.List.{List, [], _∷_}
 use Prim.Native.Nat.{ℕ, _*_, _/_}
 use native.Mathlib.Omega.{arith}
 use Rattle.sums.specs.Sums.{rows-of}
-use Rattle.change.specs.declared.Change.{Change}
 use Rattle.decode.specs.Equations.{rows-only, Solves}
 use Rattle.decode.proofs.Describe.{solves-none}
 use Rattle.decode.proofs.Marked.{on, off}

@@ -1,6 +1,4 @@
 -- No byte changed is clean.
-use mathlib.Core.Path.{sym, ap}
-use Rattle.decode.specs.Search.{chips-kind}
 use Rattle.decode.proofs.Kind.{some-chips}
 use borrow.Author.Needs.{needs}
 use Rattle.decode.proofs.chips_kind.Statement.{statement}

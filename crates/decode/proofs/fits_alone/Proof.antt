@@ -8,7 +8,6 @@ use Rattle.code.proofs.BuiltIn.{built-in-set}
 use Rattle.sums.specs.Words.{spread, gathered, at-point}
 use Rattle.sums.specs.Sums.{rows-of}
 use Rattle.decode.proofs.Alone.{sums-at, alone-is, test-no, test-yes}
-use borrow.Author.Needs.{needs}
 use Rattle.decode.proofs.fits_alone.Statement.{statement}
 use Rattle.decode.proofs.fits_alone.Tie as tie
 

@@ -1,5 +1,5 @@
 -- A byte of the card is changed exactly where one of its rows is not 0.
-use mathlib.Core.Path.{_≡_, ap, _∙_}
+use mathlib.Core.Path.{ap, _∙_}
 use Rattle.change.specs.Change.{weight}
 use Rattle.decode.proofs.Answer.{alone-counted}
 use Rattle.decode.proofs.Kind.{no-card, some-card}

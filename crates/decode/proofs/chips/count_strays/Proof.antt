@@ -1,7 +1,7 @@
 -- A loop that counts. Invariant: n is how many of the rows passed are strays.
 use mathlib.Core.Path.{_≡_, refl}
 use mathlib.Core.Logic.{⊎-elim}
-use Prim.Native.Nat.{ℕ, _≤_, _-_}
+use Prim.Native.Nat.{_≤_, _-_}
 use native.Mathlib.Omega.{arith}
 use Rattle.base.specs.Base.{tally}
 use Rattle.base.proofs.Tally.{count-some, count-same}

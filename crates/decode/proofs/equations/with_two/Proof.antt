@@ -1,9 +1,6 @@
 -- Two unknowns by two quotients, and the rows take both.
-use mathlib.Core.Path.{_≡_, sym, ap, ap₂, _∙_, subst}
-use mathlib.Core.Logic.{_≢_}
-use Prim.Native.Nat.{ℕ}
+use mathlib.Core.Path.{_≡_}
 use lib.ListN.{length}
-use Rattle.field.specs.Field.{_⊕_, _·_}
 use native.Mathlib.Omega.{arith}
 use Rattle.decode.proofs.Describe.{solves-two}
 use Rattle.decode.proofs.Steps.{first-by, second-by, by-entries}
