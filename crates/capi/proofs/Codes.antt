@@ -5,6 +5,7 @@
 --   numbered               numbers that stand for a refusal with nothing more
 --   chips-coded, card-coded                   what the parts of the code of "chips" and of "card" are
 --   outcome-back, reading-back, report-back   the answer told by the parts of a code is the answer it is the code of
+--   outcome-number, reading-number, report-number   the number in a code is 01's number of the answer
 --   outcome-one, reading-one, report-one      two answers of such a call with one code are the same
 --   outcome-fits, reading-fits, report-fits   32 bits, and 63 for a report
 use Prim.Native.Nat.{ℕ, _^_, _<_, _≤_}
@@ -16,7 +17,7 @@ use native.Mathlib.Omega.{arith}
 use lib.Dec.{leb, eqb}
 use borrow.Author.Tests.{leb-true, eq-eqb, ne-eqb}
 use Rattle.base.specs.Base.{In}
-use Rattle.answer.specs.Answer.{Answer, done, clean, in-chips, in-card, counted, refused, refused-card}
+use Rattle.answer.specs.Answer.{Answer, number, done, clean, in-chips, in-card, counted, refused, refused-card}
 use Rattle.marks.proofs.Tests.{both}
 use Rattle.capi.specs.Codes.{packed, packed-totals, code, number-in, kind-in, card-in, n-in, clean-in, chips-in, cards-in, none-in, several-in}
 use Rattle.capi.specs.Codes.{by-number, corrected-as, refused-as, outcome-in, reading-in, report-in}
@@ -101,6 +102,23 @@ module _ (ns : List ℕ) (some : numbered ns ≡ true) where
       let s = split-totals u v x y z (omega (arith, a)) (omega (arith, b)) (omega (arith, c)) (omega (arith, d)) (omega (arith, e)) in
       simp (s .0, s .1, s .2, s .3, s .4, s .5)
   report-back (refused n) (not-counted i) = let r = number-back n i in simp (r .0, r .1)
+
+  -- ---- the number in a code is 01's number of the answer
+  pub outcome-number : (a : Answer) → Outcomes ns a → number-in (code a) ≡ number a
+  outcome-number done was-done = refl
+  outcome-number (refused n) (was-refused i) = number-back n i .0
+
+  pub reading-number : (a : Answer) → Readings ns a → number-in (code a) ≡ number a
+  reading-number clean was-clean = refl
+  reading-number (in-chips n) (was-in-chips h) = chips-coded n (omega (arith, h)) .0
+  reading-number (in-card j n) (was-in-card h i) = card-coded j n (omega (arith, h)) (omega (arith, i)) .0
+  reading-number (refused-card n j) (was-several e h) = split n 0 j 0 (omega (arith, e)) (omega arith) (omega (arith, h)) (omega arith) .0
+  reading-number (refused n) (not-read i) = number-back n i .0
+
+  pub report-number : (a : Answer) → Reports ns a → number-in (code a) ≡ number a
+  report-number (counted u v x y z) (were-counted a b c d e) =
+      split-totals u v x y z (omega (arith, a)) (omega (arith, b)) (omega (arith, c)) (omega (arith, d)) (omega (arith, e)) .0
+  report-number (refused n) (not-counted i) = number-back n i .0
 
   -- ---- so two answers with one code are the same
   one : (f : ℕ → Answer) (a b : Answer) → f (code a) ≡ a → f (code b) ≡ b → code a ≡ code b → a ≡ b
