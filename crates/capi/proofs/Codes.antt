@@ -25,7 +25,8 @@ use Rattle.capi.proofs.Gives.{Outcomes, was-done, was-refused, Readings
 use Rattle.capi.proofs.Gives.{Reports, were-counted, not-counted}
 
 -- in figures: the header's layout, each part at its bits
-pub layout : (code done ≡ 0) × (code clean ≡ 0) × (code (in-chips 9) ≡ 0x09000100) × (code (in-card 4 9) ≡ 0x09040200) × (code (refused 10) ≡ 0x0000000A) × (code (refused-card 11 3) ≡ 0x0003000B)
+pub layout : (code done ≡ 0) × (code clean ≡ 0) × (code (in-chips 9) ≡ 0x09000100)
+    × (code (in-card 4 9) ≡ 0x09040200) × (code (refused 10) ≡ 0x0000000A) × (code (refused-card 11 3) ≡ 0x0003000B)
     × (code (counted 1 2 3 4 5) ≡ 0x00500800C0100100)
 layout = (refl, refl, refl, refl, refl, refl, refl)
 
