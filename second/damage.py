@@ -1,4 +1,4 @@
-"""Seeded inputs for the comparison: mark records and damaged banks.
+"""Seeded inputs for the comparison: mark records, registers, damaged banks.
 
 Every choice comes from the random.Random that is handed in, so a seed gives
 the same input again.  MARK_SHAPES names the ways of making a mark record,
@@ -154,6 +154,18 @@ def any_marks(rng):
     shape = rng.choices([lawful_marks, unlawful_marks, any_four_bytes],
                         [16, 3, 1])[0]
     return bytes(shape(rng))
+
+
+# --------------------------------------------------------------- registers
+
+def any_registers(rng):
+    """Twelve registers, mostly such that a command on a small bank is done."""
+    held = bytearray(rng.randbytes(8) + any_marks(rng))
+    if rng.random() < 0.8:
+        held[1:3] = rng.choice([0, 0, 1, 2]), 0
+    if rng.random() < 0.8:
+        held[3] = rng.choice([*held[8:], *range(CARDS), rng.randrange(BLOCK)])
+    return bytes(held)
 
 
 # --------------------------------------------------------- damage to a block

@@ -9,7 +9,8 @@ Words: a block is 45 bytes, five cards of nine chips; a chip's position is
 record is 4 bytes (card, count, first, second) with 255 for "none".
 
 The parts, in order: field, labels, check rules, elimination, storing, marks,
-allowed changes, the set S, reading, the calls on lent bytes, the book.
+allowed changes, the set S, reading, the calls on lent bytes.  registers.py has
+order 1's registers, book.py the book.
 """
 
 import math
@@ -357,7 +358,7 @@ def describe(places, marks):
     return Answer(kind=IN_CARD, card=holders.pop(), n=n)
 
 
-def _read(block, marks):
+def read_opened(block, marks):
     """A reading of 45 bytes under opened marks: (answer, lawful block or None)."""
     found = lawful_blocks(block, marks)
     if not found:
@@ -374,7 +375,7 @@ def reading(block, marks):
     number = lowest(length_cause(block, BLOCK, 1), marks_cause(marks))
     if number:
         return Answer(number), None
-    return _read(block, open_marks(marks))
+    return read_opened(block, open_marks(marks))
 
 
 # ------------------------------------------------- the calls on lent bytes
@@ -428,7 +429,7 @@ def read_into(output, block, marks):
                     length_cause(output, BLOCK, 2), marks_cause(marks))
     if number:
         return Answer(number)
-    answer, member = _read(block, open_marks(marks))
+    answer, member = read_opened(block, open_marks(marks))
     if member is not None:
         output[:] = member
     return answer
@@ -514,7 +515,7 @@ def get(bank, k, output, marks):
                     number_cause(bank, k), marks_cause(marks))
     if number:
         return Answer(number)
-    answer, member = _read(block_of(bank, k), open_marks(marks))
+    answer, member = read_opened(block_of(bank, k), open_marks(marks))
     if member is not None:
         output[:] = member
     return answer
@@ -526,7 +527,7 @@ def patrol(bank, k, marks):
                     marks_cause(marks))
     if number:
         return Answer(number)
-    answer, member = _read(block_of(bank, k), open_marks(marks))
+    answer, member = read_opened(block_of(bank, k), open_marks(marks))
     if member is not None:
         _write_block(bank, k, member)
     return answer
@@ -548,7 +549,7 @@ def report(bank, marks):
     now = open_marks(marks)
     totals = [0] * 5
     for k in range(len(bank) // BLOCK):
-        answer, _ = _read(block_of(bank, k), now)
+        answer, _ = read_opened(block_of(bank, k), now)
         totals[total_of(answer)] += 1
     return Answer(), tuple(totals)
 
@@ -561,134 +562,3 @@ def sound_per_thousand(totals):
     share = 1000 * Fraction(sum(totals[:3]), sum(totals))
     whole = math.floor(share)
     return whole + 1 if share - whole >= Fraction(1, 2) else whole
-
-
-# ---------------------------------------------------------------- the book
-
-class Book:
-    """01's book: fed the calls' arguments and the hits, it gives the answers.
-
-    For each block it keeps good and held; beside them the marks in force.
-    It uses none of the calls above, so that each can be compared with it.
-    """
-
-    def __init__(self, blocks):
-        assert 1 <= blocks <= MOST_BLOCKS
-        self.blocks = blocks
-        self.card = None
-        self.chips = []
-        self.clear()
-
-    # What stands after each entry.
-
-    def bank(self):
-        """The held blocks: the bank after the last entry."""
-        return b"".join(bytes(block) for block in self.held)
-
-    def marks(self):
-        """The mark record after the last entry."""
-        return close_marks(self.in_force())
-
-    def in_force(self):
-        return Marks(self.card, tuple(self.chips))
-
-    # The entries.
-
-    def clear(self):
-        self.good = [bytes(BLOCK) for _ in range(self.blocks)]
-        self.held = [bytearray(BLOCK) for _ in range(self.blocks)]
-        self.patrols_allowed = [True] * self.blocks
-        return Answer()
-
-    def put(self, k, record):
-        if len(record) != RECORD:
-            return Answer(3)
-        if k >= self.blocks:
-            return Answer(5)
-        self.good[k] = store(record)
-        self.held[k] = bytearray(self.good[k])
-        self.patrols_allowed[k] = True
-        return Answer()
-
-    def hit(self, at, value):
-        """Set byte `at` of the bank."""
-        self.held[at // BLOCK][at % BLOCK] = value
-
-    def get(self, k, output):
-        """(answer, output after)."""
-        before = bytes(output)
-        if len(before) != BLOCK:
-            return Answer(2), before
-        if k >= self.blocks:
-            return Answer(5), before
-        answer, member = _read(bytes(self.held[k]), self.in_force())
-        return answer, (before if member is None else member)
-
-    def patrol(self, k):
-        if k >= self.blocks:
-            return Answer(5)
-        self.patrols_allowed[k] &= self.damage_allowed(k)
-        answer, member = _read(bytes(self.held[k]), self.in_force())
-        if member is not None:
-            self.held[k] = bytearray(member)
-        return answer
-
-    def report(self):
-        """(answer, totals)."""
-        said = [total_of(_read(bytes(block), self.in_force())[0])
-                for block in self.held]
-        return Answer(), tuple(said.count(which) for which in range(5))
-
-    def place_chip(self, chip):
-        if chip >= BLOCK:
-            return Answer(6)
-        if chip in self.chips:
-            return Answer(7)
-        if len(self.chips) == 2:
-            return Answer(8)
-        self.chips.append(chip)
-        return Answer()
-
-    def place_card(self, card):
-        if card >= CARDS:
-            return Answer(6)
-        if card == self.card:
-            return Answer(7)
-        if self.card is not None:
-            return Answer(8)
-        self.card = card
-        return Answer()
-
-    def lift_chip(self, chip):
-        if chip >= BLOCK:
-            return Answer(6)
-        if chip not in self.chips:
-            return Answer(9)
-        self.chips.remove(chip)
-        return Answer()
-
-    def lift_card(self):
-        if self.card is None:
-            return Answer(9)
-        self.card = None
-        return Answer()
-
-    # Demand 3's last sentence.
-
-    def damage(self, k):
-        """01: "the damage to a block", as the positions that differ."""
-        return changed(self.good[k], self.held[k])
-
-    def damage_allowed(self, k):
-        return is_allowed(self.damage(k), self.in_force())
-
-    def promise(self, k):
-        """What a get of block k must give now: (good block, may it be several).
-
-        None where demand 3 promises nothing for this block.
-        """
-        if not (self.patrols_allowed[k] and self.damage_allowed(k)):
-            return None
-        marks = self.in_force()
-        sure = marks.card is not None or is_chip_kind(self.damage(k), marks)
-        return self.good[k], not sure

@@ -1,4 +1,7 @@
-"""Checks of reference.py and bank.py against document 01.
+"""Checks of the second implementation against document 01 and order 1.
+
+Those of reference.py and bank.py are here, those of the registers and of the
+lists in selftest_registers.py and selftest_lists.py.
 
 Prints 'N checks, 0 failed', or a message for each failure and exit 1.
 """
@@ -12,29 +15,11 @@ from itertools import combinations, product
 import bank as program
 import damage
 import reference as ref
-from reference import (Answer, BLOCK, Book, CARDS, CHIPS, CLEAN, FRESH,
-                       IN_CARD, IN_CHIPS, Marks, RECORD)
-
-counts = {"done": 0, "failed": 0}
-
-
-def check(what, got, wanted=True):
-    counts["done"] += 1
-    if got != wanted:
-        counts["failed"] += 1
-        print(f"failed: {what}: got {got!r}, wanted {wanted!r}")
-
-
-def zeros_with(changes):
-    """45 zeros with some bytes set."""
-    block = bytearray(BLOCK)
-    for p, value in changes.items():
-        block[p] = value
-    return bytes(block)
-
-
-def marks(card=255, *chips):
-    return bytes([card, len(chips), *chips, *[255] * (2 - len(chips))])
+import selftest_lists
+import selftest_registers
+from checking import check, counts, marks, zeros_with
+from reference import (Answer, BLOCK, CARDS, CHIPS, CLEAN, FRESH, IN_CARD,
+                       IN_CHIPS, Marks, RECORD)
 
 
 def all_lawful_marks():
@@ -449,77 +434,6 @@ def check_single_chips():
         check(f"one bad chip at {p}", wrong, [])
 
 
-# ----------------------------------------------------- the calls and the book
-
-def any_call(rng, blocks):
-    """An entry of a list: its name and arguments, wrong ones too."""
-    k = rng.choice([rng.randrange(blocks)] * 9 + [blocks, blocks + 7])
-    chip = rng.choice([rng.randrange(BLOCK), rng.randrange(3), 44, 45, 255])
-    card = rng.choice([rng.randrange(CARDS), 1, 5, 255])
-    length = rng.choice([RECORD] * 9 + [0, 33, 35])
-    output = rng.randbytes(rng.choice([BLOCK] * 9 + [0, 44, 46]))
-    return rng.choices(
-        [("clear",), ("put", k, rng.randbytes(length)), ("get", k, output),
-         ("patrol", k), ("report",), ("place_chip", chip),
-         ("place_card", card), ("lift_chip", chip), ("lift_card",),
-         ("hits", k % blocks)],
-        [1, 12, 30, 14, 4, 8, 4, 8, 4, 30])[0]
-
-
-def any_hits(rng, book, k):
-    """Hits that leave block k with some kind of damage: (byte, value)."""
-    block = bytearray(book.held[k])
-    kind = rng.choice(list(damage.DAMAGE))
-    damage.DAMAGE[kind](rng, block, book.in_force())
-    return [(BLOCK * k + p, block[p]) for p in ref.changed(block, book.held[k])]
-
-
-def run_list(rng, entries):
-    """One list of demand 3: the calls on lent bytes against the book."""
-    blocks = rng.choice([1, 2, 5])
-    book, lent, record = Book(blocks), bytearray(BLOCK * blocks), bytearray(FRESH)
-    for _ in range(entries):
-        call, *asked = any_call(rng, blocks)
-        if call == "hits":
-            for at, value in any_hits(rng, book, asked[0]):
-                book.hit(at, value)
-                lent[at] = value
-            got = wanted = None
-        elif call == "get":
-            got, wanted = run_get(book, lent, record, *asked)
-        elif call in ("clear", "put"):
-            got = getattr(ref, call)(lent, *asked)
-            wanted = getattr(book, call)(*asked)
-        elif call in ("patrol", "report"):
-            got = getattr(ref, call)(lent, *asked, record)
-            wanted = getattr(book, call)(*asked)
-        else:
-            got = getattr(ref, call)(record, *asked)
-            wanted = getattr(book, call)(*asked)
-        check(f"{call} {asked}", got, wanted)
-        check(f"{call} {asked}: bank and marks",
-              (bytes(lent), bytes(record)), (book.bank(), book.marks()))
-
-
-def run_get(book, lent, record, k, before):
-    promise = book.promise(k) if k < book.blocks else None
-    output = bytearray(before)
-    got = ref.get(lent, k, output, record)
-    if promise and len(before) == BLOCK:
-        good, may_be_several = promise
-        kept = got.number == 0 and bytes(output) == good
-        check(f"promise for block {k}",
-              kept or (got.number == 11 and may_be_several))
-        part = bytes(ref.record_part(output, got))
-        check(f"record of block {k}", part, good[:RECORD] if kept else b"")
-    return (got, bytes(output)), book.get(k, before)
-
-
-def check_lists(rng):
-    for _ in range(60):
-        run_list(rng, 100)
-
-
 # ------------------------------------------------------------- bank program
 
 SAMPLE = FRESH + bytes(45) + bytes((8, 6, 1)) + bytes(42)
@@ -624,7 +538,8 @@ def main():
     check_by_trial(rng)
     check_single_chips()
     check_damage(rng)
-    check_lists(rng)
+    selftest_registers.check_registers(rng)
+    selftest_lists.check_lists(rng)
     check_program(rng)
     check_rounding()
     print(f"{counts['done']} checks, {counts['failed']} failed")

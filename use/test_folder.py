@@ -8,8 +8,8 @@ import unittest
 from kit import ARCHIVE, C_FLAGS, KIT, ROOT, InFolder, needs, run, try_run
 
 WHOLE = {"liblivomashen.a", "livomashen.h", "livomashen.pc", "livomashen.3",
-         "cabinet.1", "inspect.1", "DATA-SHEET.md", "example.c", "Cargo.toml",
-         "build.rs", "src/lib.rs", "src/livomashen.rs"}
+         "cabinet.1", "inspect.1", "DATA-SHEET.md", "example.c", "registers.c",
+         "Cargo.toml", "build.rs", "src/lib.rs", "src/livomashen.rs"}
 
 
 def version():
@@ -43,10 +43,12 @@ class Folder(InFolder):
                       (self.kit / "Cargo.toml").read_text())
 
     @needs("gcc")
-    def test_the_example_where_it_lies(self):
-        run("gcc", *C_FLAGS, "-I.", "example.c", "-L.", "-llivomashen", "-o",
-            "example", cwd=self.kit)
-        self.assertIn("card 1, 9 bytes changed", run("./example", cwd=self.kit))
+    def test_the_examples_where_they_lie(self):
+        for name, line in (("example", "card 1, 9 bytes changed"),
+                           ("registers", "report: clean 300 of 300")):
+            run("gcc", *C_FLAGS, "-I.", f"{name}.c", "-L.", "-llivomashen", "-o",
+                name, cwd=self.kit)
+            self.assertIn(line, run(f"./{name}", cwd=self.kit))
 
     @needs("gcc", "pkg-config")
     def test_pkg_config(self):
@@ -91,11 +93,12 @@ class Installed(InFolder):
                               "include/livomashen.h",
                               "share/man/man3/livomashen.3",
                               "share/doc/livomashen/DATA-SHEET.md",
-                              "share/doc/livomashen/example.c"}, found)
+                              "share/doc/livomashen/example.c",
+                              "share/doc/livomashen/registers.c"}, found)
         self.assertEqual((prefix / "lib/liblivomashen.a").read_bytes(),
                          ARCHIVE.read_bytes())
         pages = {name for name in found if re.search(r"man3/livomashen_\w+\.3$", name)}
-        self.assertEqual(len(pages), 11)
+        self.assertEqual(len(pages), 14)
         self.assertEqual(names(into), WHOLE)
 
     @needs("man")
@@ -103,8 +106,9 @@ class Installed(InFolder):
         prefix = self.folder / "prefix"
         run(ROOT / "use" / "build", "--library", ARCHIVE, "--into",
             self.folder / "into", "--prefix", prefix)
-        said = run("man", "-M", prefix / "share" / "man", "livomashen_patrol")
-        self.assertIn("five memory cards", said)
+        for call in ("livomashen_patrol", "livomashen_write_register"):
+            said = run("man", "-M", prefix / "share" / "man", call)
+            self.assertIn("five memory cards", " ".join(said.split()))
 
 
 class Building(InFolder):

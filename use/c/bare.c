@@ -1,6 +1,7 @@
 /*
  * The library with no C library at all: gcc -nostdlib, with a start and a
- * memset of its own.  A card is pulled, the record is got, the bank mended.
+ * memset of its own.  A card is pulled, the record is got, the bank mended; and
+ * the same by registers.
  * The exit is 0, or the number of the step that is not as expected.
  */
 #include "livomashen.h"
@@ -20,6 +21,40 @@ __asm__(".globl _start\n"
         "    syscall\n");
 
 static uint8_t bank[LENGTH];
+static uint8_t registers[LIVOMASHEN_REGISTERS] = LIVOMASHEN_FRESH_REGISTERS;
+
+/* A card is pulled: the nine chips of card 1 in block 2 change. */
+static void pull_card(void)
+{
+    size_t at;
+    for (at = 0; at < LIVOMASHEN_CHIPS; at++)
+        bank[2 * LIVOMASHEN_BLOCK + 9 + at] ^= 0x5A;
+}
+
+static uint32_t write_register(uint32_t address, uint8_t value)
+{
+    return livomashen_write_register(registers, address, value, bank, LENGTH, NULL, 0);
+}
+
+/* By commands: the number of the step, or 0. */
+static int by_registers(void)
+{
+    livomashen_answer a;
+    pull_card();
+    if (write_register(LIVOMASHEN_AT_ENABLE, LIVOMASHEN_PENDING_DONE) != LIVOMASHEN_DONE
+        || write_register(LIVOMASHEN_AT_BLOCK_LOW, 2) != LIVOMASHEN_DONE
+        || write_register(LIVOMASHEN_AT_COMMAND, LIVOMASHEN_COMMAND_PATROL)
+           != LIVOMASHEN_DONE)
+        return 9;
+    a = livomashen_last_answer(registers);
+    if (a.number != 0 || a.kind != LIVOMASHEN_IN_CARD || a.card != 1 || a.n != 9)
+        return 10;
+    if (livomashen_interrupt(registers) != 1
+        || livomashen_split_register(livomashen_read_register(
+               registers, LIVOMASHEN_AT_PENDING)).byte != LIVOMASHEN_PENDING_DONE)
+        return 11;
+    return 0;
+}
 
 int steps(void)
 {
@@ -36,8 +71,7 @@ int steps(void)
         return 1;
     if (livomashen_put(bank, LENGTH, 2, record, sizeof record) != LIVOMASHEN_DONE)
         return 2;
-    for (at = 0; at < LIVOMASHEN_CHIPS; at++)
-        bank[2 * LIVOMASHEN_BLOCK + 9 + at] ^= 0x5A;
+    pull_card();
     if (livomashen_place_card(marks, sizeof marks, 1) != LIVOMASHEN_DONE)
         return 3;
     if (livomashen_split_answer(livomashen_get(bank, LENGTH, 2, marks, sizeof marks,
@@ -52,5 +86,5 @@ int steps(void)
     if (livomashen_lift_card(marks, sizeof marks) != LIVOMASHEN_DONE)
         return 7;
     t = livomashen_split_report(livomashen_report(bank, LENGTH, marks, sizeof marks));
-    return t.number == 0 && t.clean == BLOCKS ? 0 : 8;
+    return t.number == 0 && t.clean == BLOCKS ? by_registers() : 8;
 }

@@ -1,107 +1,16 @@
 /*
- * The calls of the library, each checked: lent buffers between guard bytes,
- * document 01's number worked out anew, and every byte compared that must not
- * have changed.  Part of limits.c, and included there alone.
+ * The calls on blocks, banks and marks, each checked: document 01's number
+ * worked out anew in lent.h, and every byte compared that must not have changed.
+ * Part of limits.c, and included there alone.
  */
-#include "livomashen.h"
-
-#include <stdio.h>
-#include <stdlib.h>
-#include <string.h>
-
-enum { GUARD = 32, ROOM = 46400 };
-
-/* A lent slice between guard bytes, with a copy of how it was before. */
-typedef struct lent {
-    size_t len;
-    uint8_t *bytes;
-    uint8_t now[ROOM + 2 * GUARD];
-    uint8_t before[ROOM + 2 * GUARD];
-} lent;
+#include "lent.h"
 
 static lent record, block, out, bank, marks;
-static unsigned long calls = 0;
-
-/* ------------------------------------------------------------- the buffers */
-
-/* Makes the slice of this length, filled with a pattern that no call writes
- * by chance, and remembers it. */
-static void lend(lent *l, size_t len)
-{
-    size_t at;
-    l->len = len;
-    l->bytes = l->now + GUARD;
-    memset(l->now, 0xA7, len + 2 * GUARD);
-    for (at = 0; at < len; at++)
-        l->bytes[at] = (uint8_t)(at * 37 + 11);
-    memcpy(l->before, l->now, len + 2 * GUARD);
-}
-
-/* The same with given content, repeated to the length. */
-static void lend_bytes(lent *l, size_t len, const uint8_t *from, size_t from_len)
-{
-    size_t at;
-    lend(l, len);
-    for (at = 0; at < len; at++)
-        l->bytes[at] = from[at % from_len];
-    memcpy(l->before, l->now, len + 2 * GUARD);
-}
 
 static int guards_hold(const lent *l)
 {
     return memcmp(l->now, l->before, GUARD) == 0
         && memcmp(l->now + GUARD + l->len, l->before + GUARD + l->len, GUARD) == 0;
-}
-
-static int as_before(const lent *l)
-{
-    return memcmp(l->now, l->before, l->len + 2 * GUARD) == 0;
-}
-
-/* ---------------------------------------------------- the expected numbers */
-
-static unsigned lowest(unsigned a, unsigned b)
-{
-    if (a == 0)
-        return b;
-    return b == 0 || a < b ? a : b;
-}
-
-static unsigned length_number(size_t len, size_t right, unsigned number)
-{
-    return len == right ? 0 : number;
-}
-
-static unsigned bank_number(size_t len)
-{
-    return len >= 45 && len <= 46080 && len % 45 == 0 ? 0 : 4;
-}
-
-static unsigned block_number(size_t len, size_t k)
-{
-    return k < len / 45 ? 0 : 5;
-}
-
-/* A chip place below the count holds a position, any other 255. */
-static int place_lawful(uint8_t place, int used)
-{
-    return used ? place <= 44 : place == 255;
-}
-
-static unsigned mark_number(const uint8_t *m, size_t len)
-{
-    if (len != 4)
-        return 6;
-    if ((m[0] > 4 && m[0] != 255) || m[1] > 2)
-        return 6;
-    if (!place_lawful(m[2], m[1] >= 1) || !place_lawful(m[3], m[1] == 2))
-        return 6;
-    return m[1] == 2 && m[2] == m[3] ? 7 : 0;
-}
-
-static int chip_there(const uint8_t *m, uint32_t position)
-{
-    return (m[1] >= 1 && m[2] == position) || (m[1] == 2 && m[3] == position);
 }
 
 /* ------------------------------------------------------------- the compare */
@@ -247,64 +156,31 @@ static void marks_become(const char *call, uint32_t got, unsigned wanted, const 
 
 static void try_place_chip(uint32_t position)
 {
-    const uint8_t *m = marks.bytes;
     uint8_t after[4] = { 0, 0, 0, 0 };
-    unsigned wanted = lowest(mark_number(m, marks.len), position > 44 ? 6 : 0);
-    if (wanted == 0 && chip_there(m, position))
-        wanted = 7;
-    if (wanted == 0 && m[1] == 2)
-        wanted = 8;
-    if (wanted == 0) {
-        memcpy(after, m, 4);
-        after[2 + m[1]] = (uint8_t)position;
-        after[1]++;
-    }
+    unsigned wanted = chip_placed(marks.bytes, marks.len, position, after);
     marks_become("place chip", livomashen_place_chip(marks.bytes, marks.len, position),
                  wanted, after);
 }
 
 static void try_lift_chip(uint32_t position)
 {
-    const uint8_t *m = marks.bytes;
     uint8_t after[4] = { 0, 0, 0, 0 };
-    unsigned wanted = lowest(mark_number(m, marks.len), position > 44 ? 6 : 0);
-    if (wanted == 0 && !chip_there(m, position))
-        wanted = 9;
-    if (wanted == 0) {
-        after[0] = m[0];
-        after[1] = (uint8_t)(m[1] - 1);
-        after[2] = m[2] == position ? m[3] : m[2];
-        after[3] = 255;
-    }
+    unsigned wanted = chip_lifted(marks.bytes, marks.len, position, after);
     marks_become("lift chip", livomashen_lift_chip(marks.bytes, marks.len, position),
                  wanted, after);
 }
 
 static void try_place_card(uint32_t card)
 {
-    const uint8_t *m = marks.bytes;
     uint8_t after[4] = { 0, 0, 0, 0 };
-    unsigned wanted = lowest(mark_number(m, marks.len), card > 4 ? 6 : 0);
-    if (wanted == 0 && m[0] != 255)
-        wanted = m[0] == card ? 7 : 8;
-    if (wanted == 0) {
-        memcpy(after, m, 4);
-        after[0] = (uint8_t)card;
-    }
+    unsigned wanted = card_placed(marks.bytes, marks.len, card, after);
     marks_become("place card", livomashen_place_card(marks.bytes, marks.len, card),
                  wanted, after);
 }
 
 static void try_lift_card(void)
 {
-    const uint8_t *m = marks.bytes;
     uint8_t after[4] = { 0, 0, 0, 0 };
-    unsigned wanted = mark_number(m, marks.len);
-    if (wanted == 0 && m[0] == 255)
-        wanted = 9;
-    if (wanted == 0) {
-        memcpy(after, m, 4);
-        after[0] = 255;
-    }
+    unsigned wanted = card_lifted(marks.bytes, marks.len, after);
     marks_become("lift card", livomashen_lift_card(marks.bytes, marks.len), wanted, after);
 }

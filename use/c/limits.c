@@ -2,25 +2,14 @@
  * Bad input to every call: empty slices, wrong lengths, every mark byte.  The
  * expected number is worked out in checked.h, anew, from document 01's table;
  * after each call, what must not have changed is compared byte by byte, and so
- * are the guard bytes around every buffer.
+ * are the guard bytes around every buffer.  limits_registers.c has the calls of
+ * the registers.
  *
  * Prints how many calls were made, or the first that differs, and exit 1.
  */
 #include "checked.h"
 
 /* -------------------------------------------------------------- the trials */
-
-static const uint8_t ZERO[1] = { 0 };
-static const uint8_t FRESH[4] = LIVOMASHEN_FRESH_MARKS;
-
-/* Lawful and unlawful records of every shape; the last three are 7, 6, 6. */
-static const uint8_t SHAPES[][4] = {
-    { 255, 0, 255, 255 }, { 255, 1, 7, 255 }, { 255, 2, 0, 44 },
-    { 255, 2, 10, 9 }, { 0, 0, 255, 255 }, { 4, 0, 255, 255 },
-    { 2, 1, 20, 255 }, { 2, 1, 0, 255 }, { 3, 2, 27, 28 }, { 3, 2, 27, 1 },
-    { 1, 2, 44, 0 }, { 255, 2, 9, 9 }, { 9, 2, 9, 9 }, { 255, 3, 1, 2 }
-};
-enum { SHAPE_COUNT = sizeof SHAPES / sizeof SHAPES[0] };
 
 /* Block numbers around each limit, and one whose product with 45 wraps. */
 static const size_t NUMBERS[] = {
@@ -210,13 +199,6 @@ static void mark_calls_with(uint32_t asked)
     try_place_card(asked);
     try_lift_card();
 }
-
-/* Numbers whose low byte, or low two, would be a card or a chip. */
-static const uint32_t WIDE[] = {
-    0xFFFF, 0x10000, 0x10001, 0x1002C, 0x1000000, 0x1000007, 0x7FFFFFFF,
-    0x80000000, 0x80000004, 0xFFFFFF00, 0xFFFFFF2C, 0xFFFFFFFE, 0xFFFFFFFF
-};
-enum { WIDE_COUNT = sizeof WIDE / sizeof WIDE[0] };
 
 /* Cards and chips asked for, far beyond a byte's, under every shape and length
  * of marks. */

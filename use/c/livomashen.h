@@ -8,8 +8,9 @@
  *
  * Lent bytes are passed as a pointer, then a length.  Any length may be
  * passed: a wrong one is refused by its number.  With a length of 0 the
- * pointer is not followed.  Bytes that a call may write must not overlap any
- * other bytes lent to the same call.  A refused call writes nothing at all.
+ * pointer is not followed.  The registers alone are passed without a length:
+ * they are twelve bytes, always.  Bytes that a call may write must not overlap
+ * any other bytes lent to the same call.  A refused call writes nothing at all.
  *
  * No call allocates, keeps anything between calls, or fails to return.  Calls
  * on different bytes may run at the same time.
@@ -28,9 +29,9 @@ extern "C" {
 
 /* The version: another MAJOR may need changes in a program that uses it. */
 #define LIVOMASHEN_VERSION_MAJOR 1
-#define LIVOMASHEN_VERSION_MINOR 0
+#define LIVOMASHEN_VERSION_MINOR 1
 #define LIVOMASHEN_VERSION_PATCH 0
-#define LIVOMASHEN_VERSION "1.0.0"
+#define LIVOMASHEN_VERSION "1.1.0"
 
 /* Sizes. */
 enum {
@@ -39,6 +40,7 @@ enum {
     LIVOMASHEN_BLOCK = 45,           /* bytes of a block, positions of chips */
     LIVOMASHEN_RECORD = 34,          /* bytes of a record: a block's first */
     LIVOMASHEN_MARKS = 4,            /* bytes of a mark record */
+    LIVOMASHEN_REGISTERS = 12,       /* bytes of the registers */
     LIVOMASHEN_MOST_BLOCKS = 1024,   /* blocks of the largest bank */
     LIVOMASHEN_LARGEST_BANK = 46080  /* its bytes */
 };
@@ -58,21 +60,62 @@ enum {
     LIVOMASHEN_MARK_LIMIT = 8,       /* third chip mark, or another card */
     LIVOMASHEN_MARK_ABSENT = 9,      /* lifting a mark that is not there */
     LIVOMASHEN_NONE = 10,            /* no record fits the block */
-    LIVOMASHEN_SEVERAL = 11          /* two records or more fit it */
+    LIVOMASHEN_SEVERAL = 11,         /* two records or more fit it */
+    LIVOMASHEN_REGISTER_ADDRESS = 12,   /* register's address is above 11 */
+    LIVOMASHEN_REGISTER_READ_ONLY = 13, /* writing byte 4, 5 or 8 to 11 */
+    LIVOMASHEN_COMMAND_UNKNOWN = 14     /* writing byte 0: not 1 to 6 */
 };
 
 /* Kinds of a corrected block. */
 enum {
     LIVOMASHEN_CLEAN = 0,            /* no byte was changed */
     LIVOMASHEN_IN_CHIPS = 1,         /* n bytes, in single chips */
-    LIVOMASHEN_IN_CARD = 2           /* n bytes, in a card, marked chips and, beside a
+    LIVOMASHEN_IN_CARD = 2,          /* n bytes, in a card, marked chips and, beside a
                                         marked card, one further chip */
+    LIVOMASHEN_MARKED = 3            /* no block: livomashen_last_answer gives it
+                                        where a mark was placed or lifted */
 };
 
 /* A mark record is four bytes: card, count, first chip, second chip; an unused
  * place holds 255.  This starts one:
  *     uint8_t marks[LIVOMASHEN_MARKS] = LIVOMASHEN_FRESH_MARKS;           */
 #define LIVOMASHEN_FRESH_MARKS { 255, 0, 255, 255 }
+
+/* The corrector as registers: twelve bytes.  This starts them:
+ *     uint8_t registers[LIVOMASHEN_REGISTERS] = LIVOMASHEN_FRESH_REGISTERS;
+ * Bytes 8 to 11 are the mark record itself: the other calls take them as
+ * marks, registers + LIVOMASHEN_AT_MARKS with a length of LIVOMASHEN_MARKS. */
+#define LIVOMASHEN_FRESH_REGISTERS { 0, 0, 0, 0, 0, 0, 0, 0, 255, 0, 255, 255 }
+
+/* Addresses of the registers. */
+enum {
+    LIVOMASHEN_AT_COMMAND = 0,       /* a write runs the command */
+    LIVOMASHEN_AT_BLOCK_LOW = 1,     /* block number: this byte .. */
+    LIVOMASHEN_AT_BLOCK_HIGH = 2,    /* .. plus 256 times this one */
+    LIVOMASHEN_AT_ASKED = 3,         /* the chip or card asked for */
+    LIVOMASHEN_AT_ANSWER = 4,        /* last answer: a kind, or 16 + number */
+    LIVOMASHEN_AT_DETAIL = 5,        /* its n, plus 16 * card */
+    LIVOMASHEN_AT_ENABLE = 6,        /* bits that may raise the interrupt */
+    LIVOMASHEN_AT_PENDING = 7,       /* a write clears the bits it has set */
+    LIVOMASHEN_AT_MARKS = 8          /* to 11: the mark record */
+};
+
+/* Commands.  Each does what a call does, with the block number, the chip or
+ * card, and the marks in the registers. */
+enum {
+    LIVOMASHEN_COMMAND_GET = 1,
+    LIVOMASHEN_COMMAND_PATROL = 2,
+    LIVOMASHEN_COMMAND_MARK_CHIP = 3, /* livomashen_place_chip */
+    LIVOMASHEN_COMMAND_MARK_CARD = 4, /* livomashen_place_card */
+    LIVOMASHEN_COMMAND_LIFT_CHIP = 5,
+    LIVOMASHEN_COMMAND_LIFT_CARD = 6  /* byte 3 is not looked at */
+};
+
+/* Bits of byte 7, and so of byte 6. */
+enum {
+    LIVOMASHEN_PENDING_DONE = 1,     /* a command was done */
+    LIVOMASHEN_PENDING_REFUSED = 2   /* a command was refused */
+};
 
 /* ------------------------------------------------------------ the library */
 
@@ -122,13 +165,32 @@ uint32_t livomashen_place_card(uint8_t *marks, size_t marks_len,
                                uint32_t card);
 uint32_t livomashen_lift_card(uint8_t *marks, size_t marks_len);
 
+/* Writes one of the twelve registers.  Byte 0: runs the command on bank and
+ * out under the marks in bytes 8 to 11, and enters it and its answer.  Byte 7:
+ * clears the bits that are set in value.  Bytes 1, 2, 3 and 6: take the value.
+ * Bank and out are looked at only where the command's own call takes them.
+ * Gives 0, or 12, 13, 14; then registers, bank and out are as before.  A
+ * command that is refused by another number is a write that was done: it
+ * changes only registers, and its number stands in byte 4. */
+uint32_t livomashen_write_register(uint8_t *registers, uint32_t address,
+                                   uint8_t value,
+                                   uint8_t *bank, size_t bank_len,
+                                   uint8_t *out, size_t out_len);
+
+/* Reads one of the twelve registers.  Gives a register code: 0 and the byte,
+ * or 12. */
+uint32_t livomashen_read_register(const uint8_t *registers, uint32_t address);
+
+/* The interrupt: 1 while bytes 6 and 7 share a set bit, else 0. */
+uint32_t livomashen_interrupt(const uint8_t *registers);
+
 /* ------------------------------------------------------- codes taken apart */
 
-/* What read, get and patrol say.  Parts that the number or kind does not use
- * are 0. */
+/* What read, get and patrol say, and the last command.  Parts that the number
+ * or kind does not use are 0. */
 typedef struct livomashen_answer {
     uint8_t number;   /* bits 0-7: 0 if corrected, else the refusal's number */
-    uint8_t kind;     /* bits 8-15: clean, in chips or in a card */
+    uint8_t kind;     /* bits 8-15: clean, in chips or in a card; or marked */
     uint8_t card;     /* bits 16-23: the card; with 11, one that fits */
     uint8_t n;        /* bits 24-31: how many bytes were changed */
 } livomashen_answer;
@@ -142,6 +204,12 @@ typedef struct livomashen_totals {
     uint16_t none;    /* bits 41-51 */
     uint16_t several; /* bits 52-62 */
 } livomashen_totals;
+
+/* What read_register says. */
+typedef struct livomashen_register {
+    uint8_t number;   /* bits 0-7: 0, or 12 */
+    uint8_t byte;     /* bits 8-15: the register; 0 with 12 */
+} livomashen_register;
 
 static inline livomashen_answer livomashen_split_answer(uint32_t code)
 {
@@ -166,6 +234,28 @@ static inline livomashen_totals livomashen_split_report(uint64_t code)
     t.none = (code >> 41) & 0x7FFu;
     t.several = (code >> 52) & 0x7FFu;
     return t;
+}
+
+static inline livomashen_register livomashen_split_register(uint32_t code)
+{
+    livomashen_register r;
+    r.number = code & 0xFFu;
+    r.byte = (code >> 8) & 0xFFu;
+    return r;
+}
+
+/* What the last command said, from bytes 4 and 5.  Before the first command
+ * it is clean: whether one has run is in byte 7. */
+static inline livomashen_answer livomashen_last_answer(const uint8_t *registers)
+{
+    unsigned answer = registers[LIVOMASHEN_AT_ANSWER];
+    unsigned detail = registers[LIVOMASHEN_AT_DETAIL];
+    livomashen_answer a;
+    a.number = answer < 16 ? 0 : (answer - 16) & 0xFFu;
+    a.kind = answer < 16 ? answer & 0xFFu : 0;
+    a.card = (detail >> 4) & 0xFu;
+    a.n = detail & 0xFu;
+    return a;
 }
 
 #ifdef __cplusplus

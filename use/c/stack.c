@@ -75,7 +75,7 @@ static unsigned below(unsigned limit)
 }
 
 static uint8_t record[100], block[100], out[100], bank[LENGTH], kept[LENGTH];
-static uint8_t marks[4];
+static uint8_t marks[4], registers[LIVOMASHEN_REGISTERS];
 
 static void fill(uint8_t *at, size_t count)
 {
@@ -98,6 +98,19 @@ static void any_marks(void)
         marks[2 + place] = (uint8_t)(place < count ? below(45) : 255);
     if (below(16) == 0)
         marks[below(4)] = (uint8_t)below(256);
+}
+
+/* A block of the bank, a chip or card that may be marked, and the marks; or one
+ * time in sixteen any bytes. */
+static void any_registers(void)
+{
+    fill(registers, LIVOMASHEN_REGISTERS);
+    if (below(16) == 0)
+        return;
+    registers[LIVOMASHEN_AT_BLOCK_LOW] = (uint8_t)below(BLOCKS + 1);
+    registers[LIVOMASHEN_AT_BLOCK_HIGH] = 0;
+    registers[LIVOMASHEN_AT_ASKED] = (uint8_t)(below(2) == 0 ? marks[2] : below(46));
+    memcpy(registers + LIVOMASHEN_AT_MARKS, marks, 4);
 }
 
 /* Damage to a stored block: marked chips, cards, chips, what fits every card,
@@ -124,6 +137,7 @@ static void any_input(void)
 {
     size_t k;
     any_marks();
+    any_registers();
     for (k = 0; k < BLOCKS; k++) {
         fill(record, 34);
         livomashen_store(record, 34, bank + 45 * k, 45);
@@ -135,10 +149,11 @@ static void any_input(void)
 
 /* --------------------------------------------------------------- the calls */
 
-enum { MOST = 11 };
+enum { MOST = 14 };
 static const char *const NAMES[MOST] = {
     "store", "read", "clear", "put", "get", "patrol", "report", "place_chip",
-    "lift_chip", "place_card", "lift_card"
+    "lift_chip", "place_card", "lift_card", "write_register", "read_register",
+    "interrupt"
 };
 static size_t deepest[MOST];
 
@@ -147,29 +162,35 @@ static uint64_t address(const void *at)
     return (uint64_t)(uintptr_t)at;
 }
 
-/* One call under both paints; bank and marks are as before each time. */
+/* One call under both paints; bank, marks and registers are as before each
+ * time. */
 static void measure(int call, any_call *function, const uint64_t *arguments)
 {
-    uint8_t marks_kept[4];
+    uint8_t marks_kept[4], registers_kept[LIVOMASHEN_REGISTERS];
     int paint;
-    memcpy(marks_kept, marks, 4);
+    memcpy(marks_kept, marks, sizeof marks);
+    memcpy(registers_kept, registers, sizeof registers);
     for (paint = 0; paint < 2; paint++) {
         size_t found = taken(function, arguments, paint == 0 ? 0x5A : 0xC3);
         if (found > deepest[call])
             deepest[call] = found;
         memcpy(bank, kept, LENGTH);
-        memcpy(marks, marks_kept, 4);
+        memcpy(marks, marks_kept, sizeof marks);
+        memcpy(registers, registers_kept, sizeof registers);
     }
 }
 
 static void one_round(void)
 {
     uint64_t r = address(record), b = address(block), o = address(out),
-             n = address(bank), m = address(marks);
+             n = address(bank), m = address(marks), g = address(registers);
     size_t k = below(BLOCKS + 1), of_bank = below(16) == 0 ? below(LENGTH) : LENGTH;
     size_t of_marks = below(16) == 0 ? below(5) : 4, of_out = length(45);
     size_t of_record = length(34), of_block = length(45);
     uint64_t chip = below(46), card = below(6);
+    /* Most writes are commands, and half of those a get or a patrol. */
+    uint64_t at = below(4) == 0 ? below(14) : LIVOMASHEN_AT_COMMAND;
+    uint64_t value = below(2) == 0 ? 1 + below(2) : below(8);
     const uint64_t lists[MOST][7] = {
         { r, of_record, o, of_out, 0, 0, 0 },
         { b, of_block, m, of_marks, o, of_out, 0 },
@@ -181,7 +202,10 @@ static void one_round(void)
         { m, of_marks, chip, 0, 0, 0, 0 },
         { m, of_marks, below(2) == 0 ? marks[2] : chip, 0, 0, 0, 0 },
         { m, of_marks, card, 0, 0, 0, 0 },
-        { m, of_marks, 0, 0, 0, 0, 0 }
+        { m, of_marks, 0, 0, 0, 0, 0 },
+        { g, at, value, n, of_bank, o, of_out },
+        { g, at, 0, 0, 0, 0, 0 },
+        { g, 0, 0, 0, 0, 0, 0 }
     };
     any_call *const calls[MOST] = {
         (any_call *)livomashen_store, (any_call *)livomashen_read,
@@ -189,7 +213,8 @@ static void one_round(void)
         (any_call *)livomashen_get, (any_call *)livomashen_patrol,
         (any_call *)livomashen_report, (any_call *)livomashen_place_chip,
         (any_call *)livomashen_lift_chip, (any_call *)livomashen_place_card,
-        (any_call *)livomashen_lift_card
+        (any_call *)livomashen_lift_card, (any_call *)livomashen_write_register,
+        (any_call *)livomashen_read_register, (any_call *)livomashen_interrupt
     };
     int call;
     for (call = 0; call < MOST; call++)

@@ -1,8 +1,9 @@
 /*
  * Memory that was never written: a store into it, a put into a bank of it, a
- * clear of it, and reads into outputs of it.  Run under valgrind's memcheck,
- * which follows every bit that nobody set: a call that looked at the old bytes
- * of its target would hand them on to the reading after it.
+ * clear of it, reads into outputs of it, and register writes beside it.  Run
+ * under valgrind's memcheck, which follows every bit that nobody set: a call
+ * that looked at the old bytes of its target would hand them on to the reading
+ * after it.
  *
  * The exit is 0, or the number of the step that is not as expected.
  */
@@ -75,11 +76,52 @@ static int clear_and_report(void)
     return wrong;
 }
 
+static int write_register(uint8_t *registers, uint32_t address, uint8_t value,
+                          uint8_t *bank, uint8_t *out)
+{
+    return livomashen_write_register(registers, address, value, bank, LENGTH,
+                                     out, 45) == LIVOMASHEN_DONE;
+}
+
+/* Marks and plain registers need no byte of bank and output; a get reads block
+ * 1 alone, and a patrol of it not the output. */
+static int registers_beside(void)
+{
+    uint8_t registers[LIVOMASHEN_REGISTERS] = LIVOMASHEN_FRESH_REGISTERS;
+    uint8_t *bank = unwritten(LENGTH), *out = unwritten(45), *unused = unwritten(45);
+    int wrong = 0;
+    if (!write_register(registers, LIVOMASHEN_AT_BLOCK_LOW, 1, bank, unused)
+        || !write_register(registers, LIVOMASHEN_AT_ENABLE, 3, bank, unused)
+        || !write_register(registers, LIVOMASHEN_AT_COMMAND,
+                           LIVOMASHEN_COMMAND_MARK_CHIP, bank, unused)
+        || !write_register(registers, LIVOMASHEN_AT_PENDING, 255, bank, unused))
+        wrong = 31;
+    else if (livomashen_last_answer(registers).kind != LIVOMASHEN_MARKED
+             || livomashen_interrupt(registers) != 0)
+        wrong = 32;
+    else if (livomashen_put(bank, LENGTH, 1, record, sizeof record) != LIVOMASHEN_DONE
+             || !write_register(registers, LIVOMASHEN_AT_COMMAND,
+                                LIVOMASHEN_COMMAND_GET, bank, out)
+             || memcmp(out, record, sizeof record) != 0)
+        wrong = 33;
+    else if (!write_register(registers, LIVOMASHEN_AT_COMMAND,
+                             LIVOMASHEN_COMMAND_PATROL, bank, unused)
+             || livomashen_read_register(registers, LIVOMASHEN_AT_ANSWER) != 0
+             || livomashen_interrupt(registers) != 1)
+        wrong = 34;
+    free(bank);
+    free(out);
+    free(unused);
+    return wrong;
+}
+
 int main(void)
 {
     size_t k;
     int wrong = store_and_read();
     for (k = 0; wrong == 0 && k < BLOCKS; k++)
         wrong = put_and_get(k);
-    return wrong != 0 ? wrong : clear_and_report();
+    if (wrong == 0)
+        wrong = clear_and_report();
+    return wrong != 0 ? wrong : registers_beside();
 }

@@ -1,5 +1,5 @@
 //! Tests of the library through its Rust wrapper: document 01's worked blocks,
-//! the limits, and random damage against plain.rs.
+//! the limits, random damage against plain.rs, and order 1's registers.
 //!
 //! rustc -O --edition 2021 --test -L DIR -l static=livomashen tests.rs
 
@@ -12,6 +12,8 @@ mod random;
 mod damage;
 #[path = "tests/limits.rs"]
 mod limits;
+#[path = "tests/registers.rs"]
+mod registers;
 #[path = "tests/worked.rs"]
 mod worked;
 

@@ -7,13 +7,14 @@
 --   within         where the place is not refused, block k lies in the bank
 use mathlib.Core.Logic.{_≢_}
 use mathlib.Core.Path.{_≡_, refl, sym, ap, _∙_}
-use mathlib.Core.Bool.{Bool, true, false, _||_, not}
+use mathlib.Core.Bool.{Bool, _||_, not}
 use mathlib.Core.List.{List, [], _∷_, _++_}
 use Prim.Native.Nat.{ℕ, _+_, _*_, _/_, _%_, _<_, _≤_}
 use native.Mathlib.Omega.{arith}
 use lib.Dec.{eqb, ltb}
 use lib.ListN.{length}
 use borrow.Author.Tests.{eq-eqb, ne-eqb, le-leb, lt-leb, le-ltb, lt-ltb, eqb-true, eqb-false, leb-false, ltb-false, not-false}
+use Rattle.base.proofs.Tests.{or-false}
 use Rattle.answer.specs.Cause.{cause, lowest}
 use Rattle.answer.proofs.Causes.{first-holds, none-holds, or-else, lowest-append, else-first}
 use Rattle.marks.specs.Marks.{marks-causes, marks-cause}
@@ -34,15 +35,11 @@ size-large n z e h = rw (ne-eqb n 0 z, eq-eqb (n % 45) 0 e, lt-ltb 46080 n h) re
 pub size-right : (n : ℕ) → n ≢ 0 → n % 45 ≡ 0 → n ≤ 46080 → 0 ≡ lowest (size-causes n)
 size-right n z e h = rw (ne-eqb n 0 z, eq-eqb (n % 45) 0 e, le-ltb 46080 n h) refl
 
-neither : (s t : Bool) → (s || t) ≡ false → (s ≡ false) × (t ≡ false)
-neither true t e = absurd (mathlib.Core.Bool.true≢false e)
-neither false t e = (refl, e)
-
 pub sized : (n : ℕ) → lowest (size-causes n) ≡ 0 → (n % 45 ≡ 0) × (n ≤ 46080) × (n ≢ 0)
 sized n e =
     let h = none-holds 3 (bad-bank n) [] e .0 in
-    let w = neither (eqb n 0) (not (eqb (n % 45) 0) || ltb 46080 n) h in
-    let v = neither (not (eqb (n % 45) 0)) (ltb 46080 n) (w .1) in
+    let w = or-false (eqb n 0) (not (eqb (n % 45) 0) || ltb 46080 n) h in
+    let v = or-false (not (eqb (n % 45) 0)) (ltb 46080 n) (w .1) in
     (eqb-true (n % 45) 0 (not-false (eqb (n % 45) 0) (v .0)), ltb-false 46080 n (v .1), eqb-false n 0 (w .0))
 
 -- ---- a block's place

@@ -4,3 +4,4 @@ pub mod Each
 pub mod Done
 pub mod Tied
 pub mod Decided
+pub mod Gives

@@ -5,19 +5,22 @@
 --   tally-none, -one, -some, -two  what a count of 0, at most 1, at least 1, at least 2 tells
 --   tally-add, -point, -card     three tests of which at most one passes; at one place; on one card of five
 --   count-more, -some, -same     one step of a loop that counts
---   at-most                      a count below n is at most n
+--   at-most                      a count below n is at most n; one-le: a test counts at most 1
+--   tally-either, -in            counted by either of two tests: at most by both together; in a list: at most its length
 --   passes, fails                a test as the code made it
 use mathlib.Core.Logic.{_≢_, _⊎_, inl, inr}
 use mathlib.Core.Path.{_≡_, refl, sym, ap, ap₂, _∙_, subst}
-use mathlib.Core.Bool.{Bool, true, false, _&&_}
+use mathlib.Core.Bool.{Bool, true, false, _&&_, _||_}
+use mathlib.Core.List.{List, [], _∷_}
 use Prim.Native.Nat.{ℕ, zero, suc, _+_, _/_, _%_, _<_, _≤_}
 use native.Mathlib.Nat.{not-suc-le-zero, le-of-suc-le-suc, lt-suc-self, lt-trans, eq-or-lt-of-le}
 use native.Mathlib.Numerals.{add-one}
 use native.Mathlib.Omega.{arith}
 use lib.Dec.{T, eqb}
+use lib.ListN.{length}
 use borrow.Author.Tests.{eq-eqb, ne-eqb}
-use Rattle.base.specs.Base.{bit, tally}
-use Rattle.base.proofs.Tests.{below-suc}
+use Rattle.base.specs.Base.{is-in, bit, tally}
+use Rattle.base.proofs.Tests.{below-suc, same}
 
 pub clash : (t : Bool) → t ≡ true → t ≡ false → ⊥
 clash t p q = subst T (sym p ∙ q) tt
@@ -114,7 +117,7 @@ pub count-same : (g : ℕ → Bool) (i n m : ℕ) (t : Bool) → n ≡ tally i g
 count-same g i n m t e q r f = count-more g i n m 0 e (ap bit (sym r ∙ q)) (omega arith)
 
 -- ---- bounds
-one-le : (t : Bool) → bit t ≤ 1
+pub one-le : (t : Bool) → bit t ≤ 1
 one-le true = omega arith
 one-le false = omega arith
 
@@ -125,6 +128,35 @@ tally-le (suc n) g = omega (arith, one-le (g n), tally-le n g)
 
 pub at-most : (n : ℕ) (g : ℕ → Bool) (v : ℕ) → v ≡ tally n g → v ≤ n
 at-most n g v e = omega (arith, tally-le n g)
+
+pub tally-either : (n : ℕ) (g h k : ℕ → Bool) → ((i : ℕ) → i < n → bit (g i) ≤ bit (h i) + bit (k i)) → tally n g ≤ tally n h + tally n k
+unfolding tally
+tally-either zero g h k e = omega arith
+tally-either (suc n) g h k e = omega (arith, e n (lt-suc-self n), tally-either n g h k (λ i z. e i (lt-trans z (lt-suc-self n))))
+
+tally-place : (n p : ℕ) → tally n (λ r. eqb r p) ≤ 1
+unfolding tally
+tally-place zero p = omega arith
+tally-place (suc n) p = pick (same n p) (tally-place n p)
+  where
+    pick : (n ≡ p) ⊎ (n ≢ p) → tally n (λ r. eqb r p) ≤ 1 → bit (eqb n p) + tally n (λ r. eqb r p) ≤ 1
+    pick (inl e) h =
+        let here : bit (eqb n p) ≡ 1 = ap bit (eq-eqb n p e) in
+        omega (arith, here, tally-never n (λ r. eqb r p) (λ i l. ne-eqb i p (λ z. omega arith)))
+    pick (inr e) h = let here : bit (eqb n p) ≡ 0 = ap bit (ne-eqb n p e) in omega (arith, here, h)
+
+or-le : (s t : Bool) → bit (s || t) ≤ bit s + bit t
+or-le true t = omega arith
+or-le false t = omega arith
+
+pub tally-in : (n : ℕ) (l : List ℕ) → tally n (λ p. is-in p l) ≤ length l
+tally-in n [] = omega (arith, tally-never n (λ p. false) (λ i h. refl))
+tally-in n (a ∷ l) = omega (
+  arith,
+  tally-either n (λ p. eqb p a || is-in p l) (λ p. eqb p a) (λ p. is-in p l) (λ i h. or-le (eqb i a) (is-in i l)),
+  tally-place n a,
+  tally-in n l,
+)
 
 -- a test as the code made it
 pub passes : {t u : Bool} → t ≡ u → t ≡ true → u ≡ true

@@ -1,7 +1,7 @@
 -- Tests that antt computes, and what holds where they pass.
 use mathlib.Core.Logic.{_≢_, _⊎_, inl, inr}
 use mathlib.Core.Path.{_≡_, refl, sym, subst}
-use mathlib.Core.Bool.{Bool, true, false}
+use mathlib.Core.Bool.{Bool, true, false, _&&_, _||_, false≢true, true≢false}
 use Prim.Native.Nat.{ℕ, zero, suc, _<_}
 use native.Mathlib.Nat.{not-suc-le-zero, le-of-suc-le-suc, eq-or-lt-of-le, lt-suc-self, lt-trans}
 use lib.Dec.{T, eqb}
@@ -21,6 +21,15 @@ same a b = pick (eqb a b) refl
     pick : (t : Bool) → eqb a b ≡ t → (a ≡ b) ⊎ (a ≢ b)
     pick true e = inl (eqb-true a b e)
     pick false e = inr (eqb-false a b e)
+
+-- ---- a joined test, taken apart
+pub and-true : (s t : Bool) → (s && t) ≡ true → (s ≡ true) × (t ≡ true)
+and-true true t e = (refl, e)
+and-true false t e = absurd (false≢true e)
+
+pub or-false : (s t : Bool) → (s || t) ≡ false → (s ≡ false) × (t ≡ false)
+or-false true t e = absurd (true≢false e)
+or-false false t e = (refl, e)
 
 -- ---- both, either
 abbrev pub both : Bool → Bool → Bool

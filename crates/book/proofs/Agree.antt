@@ -1,77 +1,151 @@
--- The book says one thing: two bookings of one list agree in all that is seen, but for the card with 11, and in the book at the end.
+-- The book says one thing: two bookings of one list agree in all that is seen, but for the card with 11, and in the book at the end, but for
+-- that card in byte 5.
 --
---   call-agree, step-agree, agree   one call, one entry, any list
---   one-book      THE STATEMENT
-use Prim.Native.Nat.{ℕ}
-use mathlib.Core.Path.{_≡_, refl, sym, ap, ap₂, _∙_}
+--   write-alike, step-alike, alike   one register write, one entry, any list, of alike books
+--   one-book              THE STATEMENT
+--   one-after             two bookings of all that is seen end in one book
+use Prim.Native.Nat.{ℕ, zero, suc, _/_, _%_}
+use mathlib.Core.Path.{_≡_, refl, sym, ap, ap₂, _∙_, subst}
+use mathlib.Core.Logic.{_≢_, inl, inr}
 use mathlib.Core.List.{List, [], _∷_}
-use lib.ListN.{length}
-use Rattle.answer.specs.Answer.{Answer, but-card}
-use Rattle.answer.proofs.Causes.{by-agree}
-use Rattle.marks.specs.Mark.{mark-cause}
-use Rattle.reading.proofs.Agree.{under-agree}
-use Rattle.bank.specs.Calls.{clear-cause, put-cause, get-cause, patrol-cause, report-cause}
-use Rattle.bank.proofs.Each.{counts-agree}
-use Rattle.book.specs.Book.{Call, clear, put, get, patrol, report, mark, Entry, call, hit, Said, says, State, Seen, seen, but-card-said, but-cards}
-use Rattle.book.specs.Book.{Book, fresh-book, state-of, many, size, marks-of, held-at, with-both, with-held, CallSays, Step, Booked, OneBook}
+use native.Mathlib.Omega.{arith}
+use lib.Dec.{eqb}
+use lib.ListN.{getD, set}
+use lib.Seq.{getD-set-other, set-comm}
+use Rattle.base.specs.Base.{if}
+use Rattle.answer.specs.Answer.{Answer, done, but-card, By}
+use Rattle.registers.specs.Registers.{register, without-bits, raised}
+use Rattle.registers.specs.Write.{command-of, stored, write-cause}
+use Rattle.registers.specs.Plain.{but-card-registers}
+use Rattle.registers.specs.declared.Registers.{Registers}
+use Rattle.registers.specs.declared.Command.{Command}
+use Rattle.registers.proofs.Decided.{ran-agree}
+use Rattle.registers.proofs.Plain.{write-numbers}
+use Rattle.book.specs.Book.{put, Entry, call, write, hit, says, State, Seen, Rest}
+use Rattle.book.specs.Book.{but-card-said, but-card-seen, but-cards}
+use Rattle.book.specs.Book.{Book, fresh-book, state-of, registers-of, marks-of, with-front}
+use Rattle.book.specs.Book.{CommandSays, WriteSays, Step, Booked, OneBook}
+use Rattle.book.proofs.Alike.{Alike, Agrees, front-of, blank, same-book, alike-card, register-same, command-same, cause-same, raised-same, command-alike, call-alike, command-eleven}
 
--- answer, output and book after it
-record Same (a a′ : Answer) (out out′ : List ℕ) (b b′ : Book) : Type 0 where
-  answer : but-card a ≡ but-card a′
-  output : out ≡ out′
-  book : b ≡ b′
+-- ---- one register write, of alike books
+-- a register other than 4 and 5
+set-blank : (f : List ℕ) (i y : ℕ) → i ≢ 4 → i ≢ 5 → blank (set f i y) ≡ set (blank f) i y
+set-blank f i y n m =
+    ap₂ (λ (u : ℕ) (w : ℕ). set (set f i y) 5 (if (eqb u 27) 0 w)) (getD-set-other f i 4 y 0 (λ z. n (sym z))) (getD-set-other f i 5 y 0 (λ z. m (sym z)))
+    ∙ set-comm f i 5 y _ m
 
-call-agree : (b : Book) (c : Call) (a a′ : Answer) (out out′ : List ℕ) (x x′ : Book) → CallSays b c a out x → CallSays b c a′ out′ x′ → Same a a′ out out′ x x′
-call-agree b clear a a′ out out′ x x′ (o, w) (o′, v) =
-    let g = by-agree (clear-cause (size b)) a a′ b x x′ _ _ w v (λ d d′. (ap but-card (d .0 ∙ sym (d′ .0)), d .1 ∙ sym (d′ .1))) in
-    record { answer = g .0; output = o ∙ sym o′; book = g .1 }
-call-agree b (put k rec) a a′ out out′ x x′ (o, w) (o′, v) =
-    let g = by-agree (put-cause (size b) k (length rec)) a a′ b x x′ _ _ w v
-    (λ d d′. (ap but-card (d .0 ∙ sym (d′ .0)), d .1 .2 ∙ ap (with-both b k) (sym (d .1 .1 .1 (d′ .1 .0) (d′ .1 .1 .0))) ∙ sym (d′ .1 .2))) in
-    record { answer = g .0; output = o ∙ sym o′; book = g .1 }
-call-agree b (get k lent) a a′ out out′ x x′ (e, w) (e′, v) =
-    let g = by-agree (get-cause (size b) k (marks-of b) (length lent)) a a′ lent out out′ _ _ w v
-    (λ d d′. under-agree (marks-of b) (held-at b k) lent a a′ out out′ d d′) in
-    record { answer = g .0; output = g .1; book = e ∙ sym e′ }
-call-agree b (patrol k) a a′ out out′ x x′ (o, w) (o′, v) =
-    let g = by-agree (patrol-cause (size b) k (marks-of b)) a a′ b x x′ _ _ w v
-    (λ d d′. let r = under-agree (marks-of b) (held-at b k) (held-at b k) a a′ (d .0) (d′ .0) (d .1) (d′ .1) in
-    (r .0, d .2 ∙ ap (with-held b k) (r .1) ∙ sym (d′ .2))) in
-    record { answer = g .0; output = o ∙ sym o′; book = g .1 }
-call-agree b report a a′ out out′ x x′ (o, e, w) (o′, e′, v) =
-    record {
-      answer = ap but-card (counts-agree (held-at b) (many b) (marks-of b) (report-cause (size b) (marks-of b)) a a′ w v);
-      output = o ∙ sym o′;
-      book = e ∙ sym e′;
-    }
-call-agree b (mark c) a a′ out out′ x x′ (o, w) (o′, v) =
-    let g = by-agree (mark-cause (marks-of b) c) a a′ b x x′ _ _ w v (λ d d′. (ap but-card (d .0 ∙ sym (d′ .0)), d .1 ∙ sym (d′ .1))) in
-    record { answer = g .0; output = o ∙ sym o′; book = g .1 }
+module _ (b d : Book) (h : Alike b d) where
+  stored-alike : (a v : ℕ) → a ≢ 4 → a ≢ 5 → Alike (with-front b (stored (registers-of b) a v .front)) (with-front d (stored (registers-of d) a v .front))
+  stored-alike a v n m = record {
+    good = h .good;
+    held = h .held;
+    marks = h .marks;
+    front =
+        set-blank (front-of b) a (put (registers-of b)) n m
+        ∙ ap₂ (λ (f : List ℕ) (u : ℕ). set f a (if (eqb a 7) (without-bits u v) v)) (h .front) (register-same b d h 7 (λ z. omega arith))
+        ∙ sym (set-blank (front-of d) a (put (registers-of d)) n m);
+  }
+    where
+      put : Registers → ℕ
+      put r = if (eqb a 7) (without-bits (register r 7) v) v
 
--- all that is seen of an entry, but for the card
-abbrev but : Seen → Seen
-but s = seen (but-card-said (s .said)) (s .output) (s .after)
+  writes-alike : (p v : ℕ) (lent out out′ : List ℕ) (x x′ : Book) → write-cause (registers-of b) p v ≡ 0 → WriteSays b p v lent out x
+      → WriteSays d p v lent out′ x′ → (out ≡ out′) × Alike x x′
+  unfolding but-card-registers
+  writes-alike zero v lent out out′ x x′ z (a, y, w, e) (a′, y′, u, f) =
+      let c = command-of (registers-of b) v in
+      let u′ = subst (λ (q : Command). CommandSays d q lent a′ out′ y′) (sym (command-same b d h v)) u in
+      let g = command-alike b d h c lent a a′ out out′ y y′ w u′ in
+      let t = ran-agree (registers-of b) (registers-of d) (register-same b d h) v a a′ (command-eleven b c lent a out y w)
+      (command-eleven d c lent a′ out′ y′ u′) (g .answer) (marks-of y) (marks-of y′) (g .after .marks) in (
+        g .output,
+        rw (e, f) (record {
+          good = g .after .good;
+          held = g .after .held;
+          marks = g .after .marks;
+          front = ap (λ (r : Registers). r .front) t;
+        }),
+      )
+  writes-alike (suc p) v lent out out′ x x′ z (e, o) (f, q) =
+      let n = write-numbers (registers-of b) (suc p) v .thirteen .1 in (
+        o ∙ sym q,
+        rw (e, f) (stored-alike (suc p) v (λ y. let k = n (inl y) in omega (arith, z, k)) (λ y. let k = n (inr (inl y)) in omega (arith, z, k))),
+      )
 
-same-seen : (s s′ : Seen) → but-card-said (s .said) ≡ but-card-said (s′ .said) → s .output ≡ s′ .output → s .after ≡ s′ .after → but s ≡ but s′
-same-seen s s′ e o t = ap₂ (λ (x : Said) (y : List ℕ). seen x y (s .after)) e o ∙ ap (λ (τ : State). seen (but-card-said (s′ .said)) (s′ .output) τ) t
+  write-alike : (p v : ℕ) (lent : List ℕ) (y y′ : Answer) (out out′ : List ℕ) (x x′ : Book)
+      → By (write-cause (registers-of b) p v) y ((x ≡ b) × (out ≡ lent)) ((y ≡ done) × WriteSays b p v lent out x)
+      → By (write-cause (registers-of d) p v) y′ ((x′ ≡ d) × (out′ ≡ lent)) ((y′ ≡ done) × WriteSays d p v lent out′ x′)
+      → Agrees y y′ out out′ x x′
+  write-alike p v lent y y′ out out′ x x′ w u =
+      by (write-cause (registers-of b) p v) refl w
+      (subst (λ (n : ℕ). By n y′ ((x′ ≡ d) × (out′ ≡ lent)) ((y′ ≡ done) × WriteSays d p v lent out′ x′)) (sym (cause-same b d h p v)) u)
+    where
+      by : (n : ℕ) → write-cause (registers-of b) p v ≡ n → By n y ((x ≡ b) × (out ≡ lent)) ((y ≡ done) × WriteSays b p v lent out x)
+          → By n y′ ((x′ ≡ d) × (out′ ≡ lent)) ((y′ ≡ done) × WriteSays d p v lent out′ x′) → Agrees y y′ out out′ x x′
+      by zero z (e, w) (f, u) =
+          let g = writes-alike p v lent out out′ x x′ z w u in
+          record { answer = ap but-card (e ∙ sym f); output = g .0; after = g .1 }
+      by (suc n) z (e, (g, o)) (f, (k, q)) = record { answer = ap but-card (e ∙ sym f); output = o ∙ sym q; after = rw (g, k) h }
 
-step-agree : (b : Book) (e : Entry) (s s′ : Seen) (x x′ : Book) → Step b e s x → Step b e s′ x′ → (but s ≡ but s′) × (x ≡ x′)
-step-agree b (call c) s s′ x x′ w v =
-    let g = call-agree b c (w .says .0) (v .says .0) (s .output) (s′ .output) x x′ (w .says .2) (v .says .2) in (
-      same-seen s s′ (ap but-card-said (w .says .1) ∙ ap says (g .answer) ∙ sym (ap but-card-said (v .says .1))) (g .output)
-          (w .after ∙ ap state-of (g .book) ∙ sym (v .after)),
-      g .book,
+-- ---- one entry, any list
+-- what is seen, by its parts
+same-seen : (s s′ : Seen) (x x′ : Book) → but-card-said (s .said) ≡ but-card-said (s′ .said) → s .output ≡ s′ .output → s .after ≡ state-of x
+    → s′ .after ≡ state-of x′ → s .interrupt ≡ raised (registers-of x) → s′ .interrupt ≡ raised (registers-of x′) → Alike x x′
+    → but-card-seen s ≡ but-card-seen s′
+unfolding but-card-registers
+same-seen s s′ x x′ e o a a′ i i′ h = rw (e, o, a, a′, i, i′, raised-same x x′ h, h .held, h .marks, h .front) refl
+
+step-alike : (b d : Book) → Alike b d → (e : Entry) (s s′ : Seen) (x x′ : Book) → Step b e s x → Step d e s′ x′
+    → (but-card-seen s ≡ but-card-seen s′) × Alike x x′
+step-alike b d h (call c) s s′ x x′ w v =
+    let g = call-alike b d h c (w .says .0) (v .says .0) (s .output) (s′ .output) x x′ (w .says .2) (v .says .2) in (
+      same-seen s s′ x x′ (ap but-card-said (w .says .1) ∙ ap says (g .answer) ∙ sym (ap but-card-said (v .says .1))) (g .output) (w .after) (v .after)
+          (w .interrupt) (v .interrupt) (g .after),
+      g .after,
     )
-step-agree b (hit i y) s s′ x x′ w v =
-    let e = w .says .2 ∙ sym (v .says .2) in
-    (same-seen s s′ (ap but-card-said (w .says .0 ∙ sym (v .says .0))) (w .says .1 ∙ sym (v .says .1)) (w .after ∙ ap state-of e ∙ sym (v .after)), e)
+step-alike b d h (write p y lent) s s′ x x′ w v =
+    let g = write-alike b d h p y lent (w .says .0) (v .says .0) (s .output) (s′ .output) x x′ (w .says .2) (v .says .2) in (
+      same-seen s s′ x x′ (ap but-card-said (w .says .1) ∙ ap says (g .answer) ∙ sym (ap but-card-said (v .says .1))) (g .output) (w .after) (v .after)
+          (w .interrupt) (v .interrupt) (g .after),
+      g .after,
+    )
+step-alike b d h (hit i y) s s′ x x′ w v =
+    let g : Alike x x′ = rw (w .says .2, v .says .2) (record {
+      good = h .good;
+      held = ap (λ (l : List (List ℕ)). set l (i / 45) (set (getD l (i / 45) []) (i % 45) y)) (h .held);
+      marks = h .marks;
+      front = h .front;
+    }) in (
+      same-seen s s′ x x′ (ap but-card-said (w .says .0 ∙ sym (v .says .0))) (w .says .1 ∙ sym (v .says .1)) (w .after) (v .after) (w .interrupt) (v .interrupt) g,
+      g,
+    )
 
-pub agree : (es : List Entry) (ss ss′ : List Seen) (b x x′ : Book) → Booked b es ss x → Booked b es ss′ x′ → (but-cards ss ≡ but-cards ss′) × (x ≡ x′)
-agree [] [] [] b x x′ Booked.end Booked.end = (refl, refl)
-agree (e ∷ es) (s ∷ ss) (s′ ∷ ss′) b x x′ (Booked.then {b′ = y} w r) (Booked.then {b′ = y′} v q) =
-    let g = step-agree b e s s′ y y′ w v in
-    let h = agree es ss ss′ y′ x x′ (rw (g .1) at r) q in
-    (ap₂ (λ (a : Seen) (l : List Seen). a ∷ l) (g .0) (h .0), h .1)
+alike : (es : List Entry) (ss ss′ : List Seen) (b d x x′ : Book) → Alike b d → Booked b es ss x → Booked d es ss′ x′
+    → (but-cards ss ≡ but-cards ss′) × Alike x x′
+alike [] [] [] b d x x′ h Booked.end Booked.end = (refl, h)
+alike (e ∷ es) (s ∷ ss) (s′ ∷ ss′) b d x x′ h (Booked.then {b′ = y} w r) (Booked.then {b′ = y′} v q) =
+    let g = step-alike b d h e s s′ y y′ w v in
+    let t = alike es ss ss′ y y′ x x′ (g .1) r q in
+    (ap₂ (λ (a : Seen) (l : List Seen). a ∷ l) (g .0) (t .0), t .1)
 
 pub one-book : OneBook
-one-book n es ss ss′ b b′ w v = agree es ss ss′ (fresh-book n) b b′ w v
+one-book n es ss ss′ b b′ w v = let g = alike es ss ss′ (fresh-book n) (fresh-book n) b b′ (same-book (fresh-book n)) w v in (g .0, alike-card b b′ (g .1))
+
+-- ---- what is seen holds the state, and so the registers
+abbrev final : State → List Seen → State
+final σ [] = σ
+final σ (s ∷ ss) = final (s .after) ss
+
+final-is : (es : List Entry) (ss : List Seen) (b x : Book) → Booked b es ss x → state-of x ≡ final (state-of b) ss
+final-is [] [] b x Booked.end = refl
+final-is (e ∷ es) (s ∷ ss) b x (Booked.then {b′ = y} w r) = final-is es ss y x r ∙ ap (λ (σ : State). final σ ss) (sym (w .after))
+
+pub one-after : (es : List Entry) (ss : List Seen) (b x x′ : Book) → Booked b es ss x → Booked b es ss x′ → x ≡ x′
+one-after es ss b x x′ w v =
+    let g = alike es ss ss b b x x′ (same-book b) w v .1 in
+    let r : x .rest ≡ x′ .rest = ap (λ (σ : State). σ .rest) (final-is es ss b x w ∙ sym (final-is es ss b x′ v)) in
+    together (g .good) (g .held) r
+  where
+    together : x .good ≡ x′ .good → x .held ≡ x′ .held → x .rest ≡ x′ .rest → x ≡ x′
+    together p q r = ap₂ (λ (k : List (List ℕ)) (l : List (List ℕ)). record { good = k; held = l; rest = x .rest }) p q
+        ∙ ap (λ (y : Rest). record { good = x′ .good; held = x′ .held; rest = y }) r

@@ -7,11 +7,11 @@ use mathlib.Core.Path.{_≡_, refl, sym, ap, _∙_, subst}
 use mathlib.Core.List.{List, [], _∷_, _++_}
 use native.Mathlib.Omega.{arith}
 use lib.ListN.{length, length-append}
-use Rattle.book.specs.Book.{Entry, call, get, Seen, Book, fresh-book, Booked, Step}
+use Rattle.book.specs.Book.{Entry, Seen, Book, fresh-book, Booked, Step}
 use Rattle.book.specs.Kept.{CallsGiveLastPut}
 use Rattle.book.proofs.Whole.{whole}
 use Rattle.book.proofs.Record.{gets-last-put}
-use Rattle.book.proofs.Agree.{agree}
+use Rattle.book.proofs.Agree.{one-after}
 
 -- as many are seen as there are entries
 as-many : (es : List Entry) (ss : List Seen) {b b′ : Book} → Booked b es ss b′ → length es ≡ length ss
@@ -26,8 +26,8 @@ last (x ∷ es) [] e s (Booked.then w r) = absurd (let h = sym (as-many (es ++ (
 last (x ∷ es) (y ∷ ss) e s (Booked.then w r) = let v = last es ss e s r in (v .0, Booked.then w (v .1), v .2)
 
 pub calls-give-last-put : CallsGiveLastPut
-calls-give-last-put n lo hi es ss k out s r b w z d =
-    let v = whole n lo hi (es ++ (call (get k out) ∷ [])) (ss ++ (s ∷ [])) r in
-    let l = last es ss (call (get k out)) s (v .1) in
-    let e = agree es ss ss (fresh-book n) (l .0) b (l .1) w .1 in
-    gets-last-put n lo hi es ss b w k out s (v .0) (subst (λ (x : Book). Step x (call (get k out)) s (v .0)) e (l .2)) z d
+calls-give-last-put n lo hi es ss k out e s r b w o z d =
+    let v = whole n lo hi (es ++ (e ∷ [])) (ss ++ (s ∷ [])) r in
+    let l = last es ss e s (v .1) in
+    let q = one-after es ss (fresh-book n) (l .0) b (l .1) w in
+    gets-last-put n lo hi es ss b w k out e o s (v .0) (subst (λ (x : Book). Step x e s (v .0)) q (l .2)) z d

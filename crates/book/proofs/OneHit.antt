@@ -1,8 +1,8 @@
 -- One byte of a block is hit after a put: the damage is allowed and of the chip kind, the get is not refused, and gives the record.
 --
 --   one-byte    a block with one byte set differs from it by a change of the chip kind
---   one-hit     THE STATEMENT
-use Prim.Native.Nat.{ℕ, _+_, _*_, _/_, _%_, _≤_, _<_}
+--   one-hit, one-hit-by-command   THE STATEMENTS, with the get by the call and by the command
+use Prim.Native.Nat.{ℕ, suc, _+_, _*_, _/_, _%_, _≤_, _<_}
 use mathlib.Core.Path.{_≡_, refl, sym, ap, _∙_, subst}
 use mathlib.Core.Logic.{_≢_, _⊎_, inl, inr}
 use mathlib.Core.Bool.{Bool, _&&_}
@@ -14,7 +14,7 @@ use lib.Seq.{getD-set-same, getD-set-other}
 use borrow.Author.Tests.{eq-eqb}
 use Rattle.base.specs.Base.{if}
 use Rattle.base.proofs.Tests.{same}
-use Rattle.answer.specs.Answer.{Answer, done, number}
+use Rattle.answer.specs.Answer.{Answer, done}
 use Rattle.answer.proofs.Causes.{by-accepted}
 use Rattle.marks.specs.Marks.{LawfulMarks, fresh-marks}
 use Rattle.code.specs.Block.{byte, zeros, OneMember, Stored}
@@ -22,9 +22,15 @@ use Rattle.code.specs.Labels.{built-in}
 use Rattle.reading.specs.Allowed.{ChipKind}
 use Rattle.bank.specs.Calls.{put-cause, get-cause}
 use Rattle.bank.proofs.Accepted.{accepts}
-use Rattle.book.specs.Book.{put, get, Entry, call, hit, says, Seen, State, fresh-state, Ran}
-use Rattle.book.specs.Book.{Book, fresh-book, size, marks-of, held-at, with-both, with-held, Booked, Step}
-use Rattle.book.specs.Kept.{good-at, last-put, DamageAllowed, DamageOfChipKind, GivesRecord, OneHit}
+use Rattle.registers.specs.Registers.{fresh-registers}
+use Rattle.registers.specs.Write.{command-of, stored}
+use Rattle.registers.specs.declared.Registers.{Registers}
+use Rattle.registers.specs.declared.Command.the-variants.{Get}
+use Rattle.registers.proofs.Writes.{plain-0}
+use Rattle.book.specs.Book.{put, get, Entry, call, write, hit, says, Seen, State, fresh-state, Ran}
+use Rattle.book.specs.Book.{Book, fresh-book, size, registers-of, marks-of, held-at, with-both, with-held, with-front, Booked, Step}
+use Rattle.book.specs.Kept.{good-at, last-put, DamageAllowed, DamageOfChipKind, by-call, by-command, Corrected, Answers, GivesRecord}
+use Rattle.book.specs.Kept.{OneHit, OneHitByCommand}
 use Rattle.book.proofs.Whole.{whole}
 use Rattle.book.proofs.Calls.{calls-give-last-put}
 
@@ -85,20 +91,63 @@ module _ (n k : ℕ) (hi : n ≤ 1024) (hk : k < n) (rec out : List ℕ) (lr : l
   abbrev list : List Entry
   list = call (put k rec) ∷ hit (45 * k + i) x ∷ []
 
+  -- damage of the chip kind never reads as "several"
+  given : (b : Book) (e : Entry) (u : Seen) (r : List ℕ) → r ≡ rec → DamageOfChipKind b k → GivesRecord b k r e u
+      → (a : Answer) × Answers e u a × Corrected a × (take 34 (u .output) ≡ rec)
+  given b e u r q d (inl (a, w, z, y)) = (a, w, z, y ∙ q)
+  given b e u r q d (inr (j, w, c, never)) = absurd (never d)
+
   record-back : (s t u : Seen) → Ran (fresh-state n) (list ++ (call (get k out) ∷ [])) ((s ∷ t ∷ []) ++ (u ∷ [])) → (b : Book)
-      → Booked (fresh-book n) list (s ∷ t ∷ []) b → (a : Answer) × (u .said ≡ says a) × (number a ≡ 0) × (take 34 (u .output) ≡ rec)
+      → Booked (fresh-book n) list (s ∷ t ∷ []) b → (a : Answer) × (u .said ≡ says a) × Corrected a × (take 34 (u .output) ≡ rec)
   record-back s t u r b (Booked.then {b′ = b₁} w (Booked.then {b′ = b₂} v Booked.end)) =
       let g = put-then s t b₁ b₂ w v in
       let d = by-chips (g .0) in
       let fine = subst (λ (y : Book). (get-cause (45 * n) k (marks-of y) (length out) ≡ 0) × DamageAllowed y k × DamageOfChipKind y k) (sym (g .1))
       (gets, inl d, d) in
-      told b₂ (fine .2)
-      (calls-give-last-put n (omega arith) hi list (s ∷ t ∷ []) k out u r b₂ (Booked.then w (Booked.then v Booked.end)) (fine .0) (fine .1))
-    where
-      told : (b₂ : Book) → DamageOfChipKind b₂ k → GivesRecord b₂ k (last-put n k (replicate 34 0) list) u
-          → (a : Answer) × (u .said ≡ says a) × (number a ≡ 0) × (take 34 (u .output) ≡ rec)
-      told b₂ d (inl (a, e, z, q)) = (a, e, z, q ∙ last)
-      told b₂ d (inr (j, e, c, never)) = absurd (never d)
+      given b₂ (call (get k out)) u _ last (fine .2)
+      (calls-give-last-put n (omega arith) hi list (s ∷ t ∷ []) k out (call (get k out)) u r b₂ (Booked.then w (Booked.then v Booked.end)) by-call (fine .0) (fine .1))
+
+  -- ---- the get by command
+  -- a register that is written
+  write-then : (p v : ℕ) (lent : List ℕ) (s : Seen) (b b′ : Book) → suc p < 8 → suc p ≢ 4 → suc p ≢ 5 → Step b (write (suc p) v lent) s b′
+      → b′ ≡ with-front b (stored (registers-of b) (suc p) v .front)
+  write-then p v lent s b b′ l e f w =
+      by-accepted _ (w .says .0) _ _ (plain-0 (registers-of b) v (suc p) (λ z. omega arith) l e f) (w .says .2) .1 .0
+
+  -- the registers with the block's number in them
+  abbrev asking : Registers
+  asking = stored (stored fresh-registers 1 (k % 256)) 2 (k / 256)
+
+  asks : command-of asking 1 ≡ Get k
+  unfolding command-of
+  asks = ap Get (let e : k % 256 + 256 * (k / 256) ≡ k = omega arith in e)
+
+  module _ (lent more : List ℕ) where
+    abbrev longer : List Entry
+    longer = call (put k rec) ∷ hit (45 * k + i) x ∷ write 1 (k % 256) lent ∷ write 2 (k / 256) more ∷ []
+
+    last-longer : last-put n k (replicate 34 0) longer ≡ rec
+    unfolding last-put
+    last-longer = last
+
+    written : (p q : Seen) (b₂ b₃ b₄ : Book) (good : List ℕ) → b₂ ≡ after n k good i x → Step b₂ (write 1 (k % 256) lent) p b₃
+        → Step b₃ (write 2 (k / 256) more) q b₄ → b₄ ≡ with-front (after n k good i x) (asking .front)
+    written p q b₂ b₃ b₄ good e w v =
+        let f = write-then 0 (k % 256) lent p b₂ b₃ (omega arith) (λ z. omega arith) (λ z. omega arith) w in
+        let g = write-then 1 (k / 256) more q b₃ b₄ (omega arith) (λ z. omega arith) (λ z. omega arith) v in
+        g ∙ ap (λ (b : Book). with-front b (stored (registers-of b) 2 (k / 256) .front))
+        (f ∙ ap (λ (b : Book). with-front b (stored (registers-of b) 1 (k % 256) .front)) e)
+
+    command-back : (s t p q u : Seen) → Ran (fresh-state n) (longer ++ (write 0 1 out ∷ [])) ((s ∷ t ∷ p ∷ q ∷ []) ++ (u ∷ [])) → (b : Book)
+        → Booked (fresh-book n) longer (s ∷ t ∷ p ∷ q ∷ []) b → (a : Answer) × Answers (write 0 1 out) u a × Corrected a × (take 34 (u .output) ≡ rec)
+    command-back s t p q u r b (Booked.then {b′ = b₁} w (Booked.then {b′ = b₂} v (Booked.then {b′ = b₃} w′ (Booked.then {b′ = b₄} v′ Booked.end)))) =
+        let g = put-then s t b₁ b₂ w v in
+        let d = by-chips (g .0) in
+        let fine = subst (λ (y : Book). (get-cause (45 * n) k (marks-of y) (length out) ≡ 0) × DamageAllowed y k × DamageOfChipKind y k
+        × (command-of (registers-of y) 1 ≡ Get k)) (sym (written p q b₂ b₃ b₄ (g .0) (g .1) w′ v′)) (gets, inl d, d, asks) in
+        given b₄ (write 0 1 out) u _ last-longer (fine .2)
+        (calls-give-last-put n (omega arith) hi longer (s ∷ t ∷ p ∷ q ∷ []) k out (write 0 1 out) u r b₄
+        (Booked.then w (Booked.then v (Booked.then w′ (Booked.then v′ Booked.end)))) (by-command 1 (fine .3)) (fine .0) (fine .1))
 
 -- a list without its last entry
 front : {σ : State} (e₁ e₂ e₃ : Entry) (s t u : Seen) → Ran σ (e₁ ∷ e₂ ∷ e₃ ∷ []) (s ∷ t ∷ u ∷ []) → Ran σ (e₁ ∷ e₂ ∷ []) (s ∷ t ∷ [])
@@ -108,3 +157,12 @@ pub one-hit : OneHit
 one-hit n k hi hk rec out lr lq i x h s t u r =
     let v = whole n (omega arith) hi (list n k hi hk rec out lr lq i x h) (s ∷ t ∷ []) (front _ _ _ s t u r) in
     record-back n k hi hk rec out lr lq i x h s t u r (v .0) (v .1)
+
+front-five : {σ : State} (e₁ e₂ e₃ e₄ e₅ : Entry) (s t p q u : Seen) → Ran σ (e₁ ∷ e₂ ∷ e₃ ∷ e₄ ∷ e₅ ∷ []) (s ∷ t ∷ p ∷ q ∷ u ∷ [])
+    → Ran σ (e₁ ∷ e₂ ∷ e₃ ∷ e₄ ∷ []) (s ∷ t ∷ p ∷ q ∷ [])
+front-five e₁ e₂ e₃ e₄ e₅ s t p q u (Ran.then d₁ (Ran.then d₂ (Ran.then d₃ (Ran.then d₄ r)))) = Ran.then d₁ (Ran.then d₂ (Ran.then d₃ (Ran.then d₄ Ran.end)))
+
+pub one-hit-by-command : OneHitByCommand
+one-hit-by-command n k hi hk rec out lent more lr lq i x h s t p q u r =
+    let v = whole n (omega arith) hi (longer n k hi hk rec out lr lq i x h lent more) (s ∷ t ∷ p ∷ q ∷ []) (front-five _ _ _ _ _ s t p q u r) in
+    command-back n k hi hk rec out lr lq i x h lent more s t p q u r (v .0) (v .1)

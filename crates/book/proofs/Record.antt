@@ -2,13 +2,13 @@
 --
 --   Kept n k rec b     a book of n blocks whose good block k is lawful and begins with rec
 --   ..-kept            so it is after each kind of entry, and after any list, rec being the record last put
---   gives              what a reading gives of a block whose damage is allowed: its good block is in S
+--   gives              what a reading gives of a block whose damage is allowed: its good block is in S; comes: its answer comes back from the registers
 --   gets-last-put      THE STATEMENT
 use Prim.Native.Nat.{ℕ, zero, suc, _*_, _/_, _≤_, _<_}
 use mathlib.Core.Path.{_≡_, refl, sym, ap, _∙_, subst}
 use mathlib.Core.Bool.{_&&_}
 use mathlib.Core.List.{List, [], _∷_}
-use mathlib.Core.Logic.{inl, inr, by-cases}
+use mathlib.Core.Logic.{_⊎_, inl, inr, by-cases}
 use native.Mathlib.Omega.{arith}
 use native.Mathlib.Decide.{ℕ-discrete}
 use lib.Dec.{eqb}
@@ -18,7 +18,7 @@ use borrow.Author.Tests.{eq-eqb, ne-eqb}
 use Rattle.base.specs.Base.{if}
 use Rattle.answer.specs.Answer.{Answer, done, clean, in-chips, in-card, counted, refused, refused-card, By}
 use Rattle.answer.proofs.Causes.{by-accepted}
-use Rattle.marks.specs.Marks.{fresh-marks, CardInRange, LawfulMarks, marked-chips}
+use Rattle.marks.specs.Marks.{CardInRange, LawfulMarks, marked-chips}
 use Rattle.marks.specs.Mark.{mark-cause, marked}
 use Rattle.marks.specs.declared.CardMark.{CardMark}
 use Rattle.marks.specs.declared.CardMark.the-variants.{None, Card}
@@ -30,10 +30,20 @@ use Rattle.code.proofs.BuiltIn.{built-in-set}
 use Rattle.code.proofs.Members.{zero-stored}
 use Rattle.reading.specs.Reading.{S, ReadsUnder}
 use Rattle.reading.proofs.Facts.{chip-one, card-one}
+use Rattle.reading.proofs.Gives.{reads-give}
 use Rattle.bank.specs.Calls.{clear-cause, put-cause, get-cause, patrol-cause}
-use Rattle.book.specs.Book.{clear, put, get, patrol, report, mark, Entry, call, hit, says, Seen, Rest, rest-of}
-use Rattle.book.specs.Book.{Book, zero-book, many, size, marks-of, held-at, with-marks, with-held, with-both, Step, Booked}
-use Rattle.book.specs.Kept.{record-after, last-put, good-at, DamageAllowed, DamageOfChipKind, GivesRecord, GetsLastPut}
+use Rattle.registers.specs.Registers.{fresh-registers}
+use Rattle.registers.specs.Write.{command-of, write-cause}
+use Rattle.registers.specs.Plain.{last-answer}
+use Rattle.registers.specs.declared.Command.{Command}
+use Rattle.registers.specs.declared.Command.the-variants.{Get, Patrol, Mark, Unknown}
+use Rattle.registers.proofs.Commands.{Comes, reading-comes}
+use Rattle.registers.proofs.Writes.{known-0}
+use Rattle.book.specs.Book.{clear, put, get, patrol, report, mark, Entry, call, write, hit, says, Seen, State, Rest, rest-of}
+use Rattle.book.specs.Book.{Book, zero-book, many, size, registers-of, marks-of, held-at, with-marks, with-held, with-both, with-front}
+use Rattle.book.specs.Book.{CommandSays, WriteSays, Step, Booked}
+use Rattle.book.specs.Kept.{record-after, last-put, good-at, DamageAllowed, DamageOfChipKind, GetOf, by-call, by-command}
+use Rattle.book.specs.Kept.{Corrected, Answers, GivesRecord, GetsLastPut}
 use Rattle.book.proofs.Causes.{clear-none, get-none}
 
 -- ---- the good block, entry by entry
@@ -77,8 +87,28 @@ module _ (n k : ℕ) (lo : 1 ≤ n) (hi : n ≤ 1024) (inside : k < n) where
     marks-kept : (m : Marks) (b′ : Book) → b′ ≡ with-marks b m → Kept n k rec b′
     marks-kept m b′ e = rw e (record { held = g .held; good = g .good; stored = g .stored })
 
+    front-kept : (f : List ℕ) (b′ : Book) → b′ ≡ with-front b f → Kept n k rec b′
+    front-kept f b′ e = rw e (record { held = g .held; good = g .good; stored = g .stored })
+
     held-kept : (j : ℕ) (x : List ℕ) (b′ : Book) → b′ ≡ with-held b j x → Kept n k rec b′
     held-kept j x b′ e = rw e (record { held = length-set (b .held) j x ∙ g .held; good = g .good; stored = g .stored })
+
+    -- a command leaves the good blocks to the call that it stands for, and no such call changes them
+    command-kept : (c : Command) (lent : List ℕ) (a : Answer) (out : List ℕ) (b′ : Book) → CommandSays b c lent a out b′ → Kept n k rec b′
+    command-kept (Get j) lent a out b′ w = rw (w .0) g
+    command-kept (Patrol j) lent a out b′ w = kept-by (patrol-cause (size b) j (marks-of b)) a b′ _ (λ d. held-kept j (d .0) b′ (d .2)) (w .0 .1)
+    command-kept (Mark c) lent a out b′ w =
+        kept-by (mark-cause (marks-of b) c) a b′ _ (λ d. marks-kept (marked (marks-of b) c) b′ (d .1)) (w .0 .1)
+    command-kept Unknown lent a out b′ w = absurd w
+
+  write-kept : (p v : ℕ) (lent out : List ℕ) {rec : List ℕ} {b : Book} (b′ : Book) → Kept n k rec b → WriteSays b p v lent out b′ → Kept n k rec b′
+  write-kept zero v lent out {b = b} b′ g (a, c, w, e) = front-kept (command-kept g (command-of (registers-of b) v) lent a out c w) _ b′ e
+  write-kept (suc p) v lent out b′ g w = front-kept g _ b′ (w .0)
+
+  refused-or : (z : ℕ) (x : Answer) {rec : List ℕ} {b : Book} (b′ : Book) (O D : Type 0) → Kept n k rec b → (D → Kept n k rec b′)
+      → By z x ((b′ ≡ b) × O) ((x ≡ done) × D) → Kept n k rec b′
+  refused-or zero x b′ O D g f w = f (w .1)
+  refused-or (suc z) x b′ O D g f (e, w) = rw (w .0) g
 
   -- one entry, any list
   entry-kept : (e : Entry) (s : Seen) {rec : List ℕ} {b b′ : Book} → Kept n k rec b → Step b e s b′ → Kept n k (record-after n k e rec) b′
@@ -90,6 +120,8 @@ module _ (n k : ℕ) (lo : 1 ≤ n) (hi : n ≤ 1024) (inside : k < n) where
   entry-kept (call report) s g w = rw (w .says .2 .1) g
   entry-kept (call (mark c)) s {b = b} {b′ = b′} g w =
       kept-by g (mark-cause (marks-of b) c) (w .says .0) b′ _ (λ d. marks-kept g (marked (marks-of b) c) b′ (d .1)) (w .says .2 .1)
+  entry-kept (write p v lent) s {b = b} {b′ = b′} g w =
+      refused-or (write-cause (registers-of b) p v) (w .says .0) b′ _ _ g (write-kept p v lent (s .output) b′ g) (w .says .2)
   entry-kept (hit i x) s {b′ = b′} g w = held-kept g (i / 45) _ b′ (w .says .2)
 
   all-kept : (es : List Entry) (ss : List Seen) {rec : List ℕ} {b b″ : Book} → Kept n k rec b → Booked b es ss b″ → Kept n k (last-put n k rec es) b″
@@ -122,22 +154,54 @@ module _ (b : Book) (k : ℕ) (rec : List ℕ) (lawful : LawfulMarks (marks-of b
       (lawful .card) (good-at b k) member c in
       ne (one .1 x sx ∙ sym (one .1 y sy))
 
-  gives : (s : Seen) (out : List ℕ) (a : Answer) → s .said ≡ says a → ReadsUnder (marks-of b) (held-at b k) out a (s .output) → GivesRecord b k rec s
-  unfolding Fits
-  gives s out clean e w = inl (clean, e, refl, ap (take 34) (sym (w .0 .1 (good-at b k) member)) ∙ good .begins)
-  gives s out (in-chips n) e w = inl (in-chips n, e, refl, ap (take 34) (sym (w .0 .1 (good-at b k) member)) ∙ good .begins)
-  gives s out (in-card j n) e w = inl (in-card j n, e, refl, ap (take 34) (sym (w .0 .1 (good-at b k) member)) ∙ good .begins)
-  gives s out (refused n) e w = absurd (w .1 (good-at b k) member)
-  gives s out (refused-card n j) e w =
-      inr (j, e ∙ ap (λ (i : ℕ). says (refused-card i j)) (w .0), no-card (marks-of b .card) refl (lawful .card) (w .1), no-chips (w .1))
-  gives s out done e w = absurd w
-  gives s out (counted u v x y z) e w = absurd w
+  -- the record, or 11
+  Given : Answer → List ℕ → Type 0
+  Given a x = (Corrected a × (take 34 x ≡ rec)) ⊎ ((j : ℕ) × (a ≡ refused-card 11 j) × (marks-of b .card ≡ None) × (DamageOfChipKind b k → ⊥))
+
+  gives : (out : List ℕ) (a : Answer) (x : List ℕ) → ReadsUnder (marks-of b) (held-at b k) out a x → Given a x
+  unfolding Fits Given
+  gives out clean x w = inl (tt, ap (take 34) (sym (w .0 .1 (good-at b k) member)) ∙ good .begins)
+  gives out (in-chips n) x w = inl (tt, ap (take 34) (sym (w .0 .1 (good-at b k) member)) ∙ good .begins)
+  gives out (in-card j n) x w = inl (tt, ap (take 34) (sym (w .0 .1 (good-at b k) member)) ∙ good .begins)
+  gives out (refused n) x w = absurd (w .1 (good-at b k) member)
+  gives out (refused-card n j) x w =
+      inr (j, ap (λ (i : ℕ). refused-card i j) (w .0), no-card (marks-of b .card) refl (lawful .card) (w .1), no-chips (w .1))
+  gives out done x w = absurd w
+  gives out (counted u v y z o) x w = absurd w
+
+  -- of an entry that answers so
+  answered : (e : Entry) (s : Seen) (a : Answer) → Answers e s a → Given a (s .output) → GivesRecord b k rec e s
+  unfolding Given
+  answered e s a q (inl w) = inl (a, q, w .0, w .1)
+  answered e s a q (inr (j, f, w, v)) = inr (j, subst (Answers e s) f q, w, v)
+
+  -- by the call, and by the command
+  read-at : (out : List ℕ) (a : Answer) (x : List ℕ) → get-cause (size b) k (marks-of b) (length out) ≡ 0
+      → By (get-cause (size b) k (marks-of b) (length out)) a (x ≡ out) (ReadsUnder (marks-of b) (held-at b k) out a x)
+      → ReadsUnder (marks-of b) (held-at b k) out a x
+  read-at out a x z w = by-accepted _ a (x ≡ out) (ReadsUnder (marks-of b) (held-at b k) out a x) z w
+
+  comes : (out : List ℕ) (a : Answer) (x : List ℕ) → ReadsUnder (marks-of b) (held-at b k) out a x → Comes a
+  comes out a x w = reading-comes (10 ∷ []) refl a (reads-give (10 ∷ []) (inl refl) (marks-of b) lawful (held-at b k) out a x w)
+
+  gets : (out : List ℕ) (e : Entry) → GetOf b k out e → (s : Seen) (b′ : Book) → Step b e s b′ → get-cause (size b) k (marks-of b) (length out) ≡ 0
+      → GivesRecord b k rec e s
+  gets out e by-call s b′ t z =
+      let a = t .says .0 in
+      answered (call (get k out)) s a (t .says .1) (gives out a (s .output) (read-at out a (s .output) z (t .says .2 .1)))
+  gets out e (by-command v c) s b′ t z =
+      let x = t .says .0 in
+      let d = by-accepted _ x _ _ (known-0 (registers-of b) v (Get k) c refl) (t .says .2) in
+      let a = d .1 .0 in
+      let y = d .1 .1 in
+      let r = read-at out a (s .output) z (subst (λ (q : Command). CommandSays b q out a (s .output) y) c (d .1 .2) .1) in
+      let told : last-answer (s .after .rest .registers) ≡ a =
+      ap (λ (τ : State). last-answer (τ .rest .registers)) (t .after) ∙ ap (λ (q : Book). last-answer (registers-of q)) (d .1 .3) ∙ comes out a (s .output) r .back in
+      answered (write 0 v out) s a (t .says .1 ∙ ap says (d .0), told) (gives out a (s .output) r)
 
 pub gets-last-put : GetsLastPut
-gets-last-put n lo hi es ss b w k out s b′ t z d =
+gets-last-put n lo hi es ss b w k out e o s b′ t z d =
     let f = get-none n k (marks-of b) (length out) z in
-    let g = all-kept n k lo hi (f .1) es ss (zeros-kept n k lo hi (f .1) (rest-of fresh-marks)) w in
+    let g = all-kept n k lo hi (f .1) es ss (zeros-kept n k lo hi (f .1) (rest-of fresh-registers)) w in
     let z′ : get-cause (size b) k (marks-of b) (length out) ≡ 0 = ap (λ (l : ℕ). get-cause (45 * l) k (marks-of b) (length out)) (g .held) ∙ z in
-    let a = t .says .0 in
-    gives b k (last-put n k (replicate 34 0) es) (cause-lawful (marks-of b) (f .2)) (g .stored) d s out a (t .says .1)
-    (by-accepted _ a (s .output ≡ out) (ReadsUnder (marks-of b) (held-at b k) out a (s .output)) z′ (t .says .2 .1))
+    gets b k (last-put n k (replicate 34 0) es) (cause-lawful (marks-of b) (f .2)) (g .stored) d out e o s b′ t z′

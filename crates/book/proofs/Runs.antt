@@ -5,9 +5,10 @@
 --   either         a call is refused, and what was lent stays; or it can be done
 --   ..-runs        each kind of entry
 --   any-list       THE STATEMENT
---   any-call, any-hit   nothing more is asked of an entry than that bytes are bytes, and that a hit lies in the bank; any-entries: of a list
+--   any-call, any-write, any-hit   nothing more is asked of an entry than that bytes are bytes, and that a hit lies in the bank; any-entries: of a list
 use Prim.Native.Nat.{ℕ, zero, suc, _+_, _-_, _*_, _≤_, _<_}
 use mathlib.Core.Path.{_≡_, refl, sym, ap, _∙_, subst}
+use mathlib.Core.Bool.{false, true≢false}
 use mathlib.Core.List.{List, [], _∷_, _++_}
 use native.Mathlib.Decide.{decLt, ℕ-discrete}
 use native.Mathlib.Omega.{arith}
@@ -28,8 +29,13 @@ use Rattle.reading.specs.Reading.{ReadsUnder}
 use Rattle.reading.proofs.Exists.{reads-exist}
 use Rattle.bank.specs.Calls.{blocks, block, with-block, clear-cause, put-cause, get-cause, patrol-cause, report-cause}
 use Rattle.bank.specs.Calls.{ClearDone, PatrolDone, EachReads, CountsEach, totals}
-use Rattle.book.specs.Book.{Call, clear, put, get, patrol, report, mark, Entry, call, hit}
-use Rattle.book.specs.Book.{State, says, nothing-said, Seen, state, seen, rest-of, fresh-state}
+use Rattle.registers.specs.Write.{command-of, is-unknown, Runs, told-by, ran, stored, write-cause}
+use Rattle.registers.specs.declared.Registers.{Registers}
+use Rattle.registers.specs.declared.Command.{Command}
+use Rattle.registers.specs.declared.Command.the-variants.{Get, Patrol, Mark, Unknown}
+use Rattle.registers.proofs.Writes.{unknown-14, write-refused, write-stored, command-done}
+use Rattle.book.specs.Book.{Call, clear, put, get, patrol, report, mark, Entry, call, write, hit}
+use Rattle.book.specs.Book.{State, says, nothing-said, Seen, state, seen, rest-of, in-force, with-record, fresh-state}
 use Rattle.book.specs.Book.{EntryDone, Ran, Bytes, Possible, AllPossible, AnyList}
 use Rattle.book.proofs.Whole.{output-long}
 use Rattle.book.proofs.Causes.{put-none, get-none, patrol-none, report-none}
@@ -123,7 +129,7 @@ record Run (n : ℕ) (σ : State) (e : Entry) : Type 0 where
 
 module _ (n : ℕ) (σ : State) (f : Fine n (σ .bank)) where
   m : Marks
-  m = σ .rest .marks
+  m = in-force (σ .rest)
 
   -- each block of the bank has a reading
   each-reading : marks-cause m ≡ 0 → (g : ℕ → Answer) × EachReads (block (σ .bank)) (blocks (σ .bank)) m g
@@ -188,10 +194,64 @@ module _ (n : ℕ) (σ : State) (f : Fine n (σ .bank)) where
       }
   call-runs (mark c) h =
       let r = either (λ x. Unit {0}) (mark-cause m c) m (λ a x. (a ≡ done) × (x ≡ marked m c)) tt (λ z. (done, marked m c, (refl, refl), tt)) in
-      record { sees = seen (says (r .0)) [] (state (σ .bank) (rest-of (r .1))); done = (r .0, r .1, r .2, refl); fine = f }
+      record { sees = seen (says (r .0)) [] (state (σ .bank) (with-record (σ .rest) (r .1))); done = (r .0, r .1, r .2, refl); fine = f }
+
+  r : Registers
+  r = σ .rest .registers
+
+  -- what the registers hold after a command, and what is seen of it
+  commanded : (v : ℕ) (out : List ℕ) (c : Command) → command-of r v ≡ c → (a : Answer) (m′ : Marks) (bank′ out′ : List ℕ)
+      → Runs (in-force (σ .rest)) c (σ .bank) out a m′ bank′ out′ → Fine n bank′ → Run n σ (write 0 v out)
+  unfolding r
+  commanded v out c e a m′ bank′ out′ w g = record {
+    sees = seen (says done) out′ (state bank′ (rest-of (ran r v a m′)));
+    done = (done, ran r v a m′, bank′, out′, command-done r v (σ .bank) out c (sym e) a m′ bank′ out′ w (told-by a) refl _ refl done refl _ refl, refl);
+    fine = g;
+  }
+
+  command-runs : (v : ℕ) (out : List ℕ) (c : Command) → command-of r v ≡ c → is-unknown c ≡ false → Run n σ (write 0 v out)
+  unfolding r
+  command-runs v out (Get k) e h =
+      let q = call-runs (get k out) tt in
+      let d = q .done in
+      commanded v out (Get k) e (d .0) (in-force (σ .rest)) (d .1) (d .2) (d .3, refl) (subst (λ (s : Seen). Fine n (s .after .bank)) (d .4) (q .fine))
+  command-runs v out (Patrol k) e h =
+      let q = call-runs (patrol k) tt in
+      let d = q .done in
+      commanded v out (Patrol k) e (d .0) (in-force (σ .rest)) (d .1) out (d .2, refl, refl) (subst (λ (s : Seen). Fine n (s .after .bank)) (d .3) (q .fine))
+  command-runs v out (Mark c) e h =
+      let d = call-runs (mark c) tt .done in
+      commanded v out (Mark c) e (d .0) (d .1) (σ .bank) out (d .2, refl, refl) f
+  command-runs v out Unknown e h = absurd (true≢false h)
+
+  write-runs : (a v : ℕ) (out : List ℕ) → Run n σ (write a v out)
+  unfolding r
+  write-runs a v out = by (write-cause r a v) refl a refl
+    where
+      known : (c : Command) → command-of r v ≡ c → write-cause r 0 v ≡ 0 → is-unknown c ≡ false
+      known (Get k) e z = refl
+      known (Patrol k) e z = refl
+      known (Mark c) e z = refl
+      known Unknown e z = absurd (let k = unknown-14 r v e in omega (arith, z, k))
+
+      by : (z : ℕ) → write-cause r a v ≡ z → (p : ℕ) → a ≡ p → Run n σ (write a v out)
+      by zero e zero q =
+          subst (λ (i : ℕ). Run n σ (write i v out)) (sym q)
+          (command-runs v out (command-of r v) refl (known (command-of r v) refl (sym (ap (λ (i : ℕ). write-cause r i v) q) ∙ e)))
+      by zero e (suc p) q = record {
+        sees = seen (says done) out (state (σ .bank) (rest-of (stored r a v)));
+        done = (done, stored r a v, σ .bank, out, write-stored r v (σ .bank) out a _ done _ refl refl refl e (λ w. omega (arith, w, q)), refl);
+        fine = f;
+      }
+      by (suc z) e p q = record {
+        sees = seen (says (refused (suc z))) out (state (σ .bank) (σ .rest));
+        done = (refused (suc z), r, σ .bank, out, write-refused r v (σ .bank) out a (suc z) (refused (suc z)) r refl refl e (λ w. omega (arith, w)), refl);
+        fine = f;
+      }
 
   runs : (e : Entry) → Possible n e → Run n σ e
   runs (call c) h = call-runs c h
+  runs (write a v out) h = write-runs a v out
   runs (hit i x) h = record {
     sees = seen nothing-said [] (state (set (σ .bank) i x) (σ .rest));
     done = (subst (λ (l : ℕ). i < l) (sym (f .long)) (h .0), h .1, refl);
@@ -217,6 +277,9 @@ any-call n (get k out) h = tt
 any-call n (patrol k) h = tt
 any-call n report h = tt
 any-call n (mark c) h = tt
+
+pub any-write : (n a v : ℕ) (out : List ℕ) → Possible n (write a v out)
+any-write n a v out = tt
 
 pub any-hit : (n i x : ℕ) → i < 45 * n → x < 256 → Possible n (hit i x)
 any-hit n i x l h = (l, h)

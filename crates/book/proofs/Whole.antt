@@ -1,19 +1,18 @@
--- Demand 3, second sentence: all that is seen of any list of calls and hits is what the book says.
+-- Demand 3, second sentence: all that is seen of any list of calls, register writes and hits is what the book says.
 --
 --   Landed b τ       the state τ is that of the book b, whose blocks are 45 long
 --   settled          refused, so nothing changed; or done, and the book's own next book
 --   read-at          block k of the bank is the block that the book holds; put-at: and so it is after it is put
---   ..-next          for each kind of call, from its contract
+--   ..-next          for each kind of call, from its contract; runs-next: a command, by the call that it stands for; write-next: a register write
 --   step, whole-from one entry of any kind; any list
 --   whole            THE STATEMENT
 use Prim.Native.Nat.{ℕ, zero, suc, _+_, _*_, _/_, _%_, _<_}
-use mathlib.Core.Path.{_≡_, refl, ap, _∙_, subst}
+use mathlib.Core.Path.{_≡_, refl, sym, ap, ap₂, _∙_, subst}
 use mathlib.Core.List.{List, [], _∷_}
 use native.Mathlib.Omega.{arith}
 use lib.ListN.{length, set, length-set}
 use Rattle.answer.specs.Answer.{Answer, done, clean, in-chips, in-card, counted, refused, refused-card, By}
 use Rattle.answer.proofs.Causes.{by-map}
-use Rattle.marks.specs.Marks.{fresh-marks}
 use Rattle.marks.specs.Mark.{mark-cause, marked, MarkDone}
 use Rattle.marks.specs.declared.Marks.{Marks}
 use Rattle.marks.specs.declared.MarkCall.{MarkCall}
@@ -22,11 +21,16 @@ use Rattle.code.specs.Labels.{built-in}
 use Rattle.reading.specs.Reading.{ReadsUnder}
 use Rattle.bank.specs.Calls.{block, with-block, clear-cause, put-cause, get-cause, patrol-cause, report-cause}
 use Rattle.bank.specs.Calls.{ClearDone, PutDone, GetDone, PatrolDone, ReportDone}
-use Rattle.book.specs.Book.{Call, clear, put, get, patrol, report, mark, Entry, call, hit}
-use Rattle.book.specs.Book.{State, says, Seen, state, seen, rest-of, fresh-state}
+use Rattle.registers.specs.Registers.{fresh-registers, raised}
+use Rattle.registers.specs.Write.{command-of, Runs, ran, stored, write-cause, Writes, WriteDone}
+use Rattle.registers.specs.declared.Registers.{Registers}
+use Rattle.registers.specs.declared.Command.{Command}
+use Rattle.registers.specs.declared.Command.the-variants.{Get, Patrol, Mark, Unknown}
+use Rattle.book.specs.Book.{Call, clear, put, get, patrol, report, mark, Entry, call, write, hit}
+use Rattle.book.specs.Book.{Rest, State, says, Seen, state, seen, rest-of, in-force, with-record, fresh-state}
 use Rattle.book.specs.Book.{CallDone, EntryDone, Ran, Book, zero-book, fresh-book, flat, state-of}
-use Rattle.book.specs.Book.{many, size, marks-of, held-at, with-marks, with-held, with-both}
-use Rattle.book.specs.Book.{CallSays, Step, Booked, WholeList}
+use Rattle.book.specs.Book.{many, size, registers-of, marks-of, held-at, with-marks, with-held, with-both, with-front}
+use Rattle.book.specs.Book.{CallSays, CommandSays, WriteSays, Step, Booked, WholeList}
 use Rattle.book.proofs.Blocks.{EachLong, each-replicate, each-set, each-at, length-flat, replicate-flat, block-flat, patch-flat, hit-flat}
 use Rattle.book.proofs.Causes.{put-none, get-none, patrol-none}
 
@@ -66,6 +70,10 @@ module _ (b : Book) (long : EachLong 45 (b .held)) where
 
   put-at : (k : ℕ) → k < many b → (x bank : List ℕ) → bank ≡ with-block (flat (b .held)) k x → bank ≡ flat (set (b .held) k x)
   put-at k h x bank e = e ∙ patch-flat 45 (b .held) k x long h
+
+  -- the interrupt is that of the registers in the state
+  told : (τ : State) (b′ : Book) → τ ≡ state-of b′ → raised (τ .rest .registers) ≡ raised (registers-of b′)
+  told τ b′ e = ap (λ (σ : State). raised (σ .rest .registers)) e
 
   -- what a call says in the book, b′ being the book after it
   Next : Call → Answer → List ℕ → State → Type 0
@@ -144,17 +152,17 @@ module _ (b : Book) (long : EachLong 45 (b .held)) where
         landed b bank (w .kept) long,
       )
 
-  mark-next : (c : MarkCall) (a : Answer) (m : Marks) → MarkDone (marks-of b) c a m → Next (mark c) a [] (state (flat (b .held)) (rest-of m))
+  mark-next : (c : MarkCall) (a : Answer) (m : Marks) → MarkDone (marks-of b) c a m → Next (mark c) a [] (state (flat (b .held)) (with-record (b .rest) m))
   unfolding MarkDone Next
   mark-next c a m w =
       let n = mark-cause (marks-of b) c in
-      let v = settled n a (state (flat (b .held)) (rest-of m)) _ (λ b′. (a ≡ done) × (b′ ≡ with-marks b (marked (marks-of b) c)))
-      (by-map n a _ _ _ _ (λ u. ap (λ (x : Marks). state (flat (b .held)) (rest-of x)) u) (λ z d. d) w)
+      let v = settled n a (state (flat (b .held)) (with-record (b .rest) m)) _ (λ b′. (a ≡ done) × (b′ ≡ with-marks b (marked (marks-of b) c)))
+      (by-map n a _ _ _ _ (λ u. ap (λ (x : Marks). state (flat (b .held)) (with-record (b .rest) x)) u) (λ z d. d) w)
       (λ z d. (
         with-marks b (marked (marks-of b) c),
         (d .0, refl),
         record {
-          state = ap (λ (x : Marks). state (flat (b .held)) (rest-of x)) (d .1);
+          state = ap (λ (x : Marks). state (flat (b .held)) (with-record (b .rest) x)) (d .1);
           long = long;
         },
       )) in
@@ -173,7 +181,7 @@ module _ (b : Book) (long : EachLong 45 (b .held)) where
   booked : (c : Call) (a : Answer) (out : List ℕ) (τ : State) (s : Seen) → s ≡ seen (says a) out τ → Next c a out τ
       → (b′ : Book) × Step b (call c) s b′ × EachLong 45 (b′ .held)
   unfolding Next
-  booked c a out τ s e v = rw e (v .0, record { says = (a, refl, v .1); after = v .2 .state }, v .2 .long)
+  booked c a out τ s e v = rw e (v .0, record { says = (a, refl, v .1); after = v .2 .state; interrupt = told _ (v .0) (v .2 .state) }, v .2 .long)
 
   call-step : (c : Call) (s : Seen) → CallDone (state-of b) c s → (b′ : Book) × Step b (call c) s b′ × EachLong 45 (b′ .held)
   call-step clear s (a, bank, w, e) = booked clear a [] _ s e (clear-next a bank w)
@@ -183,11 +191,67 @@ module _ (b : Book) (long : EachLong 45 (b .held)) where
   call-step report s (a, bank, w, e) = booked report a [] _ s e (report-next a bank w)
   call-step (mark c) s (a, m, w, e) = booked (mark c) a [] _ s e (mark-next c a m w)
 
+  -- a command that answered a and left the mark record m: the book after the call that it stands for, and then the registers
+  command-next : (v : ℕ) (a : Answer) (m : Marks) (bank : List ℕ) (w : Rest) (c : Book) → Landed c (state bank w) → in-force w ≡ m
+      → Landed (with-front c (ran (registers-of b) v a (marks-of c) .front)) (state bank (rest-of (ran (registers-of b) v a m)))
+  command-next v a m bank w c l e = record {
+    state = ap₂ (λ (x : List ℕ) (n : Marks). state x (rest-of (ran (registers-of b) v a n))) (ap (λ (τ : State). τ .bank) (l .state))
+        (sym e ∙ ap (λ (τ : State). in-force (τ .rest)) (l .state));
+    long = l .long;
+  }
+
+  runs-next : (v : ℕ) (c : Command) (lent : List ℕ) (a : Answer) (m : Marks) (bank out : List ℕ) → Runs (marks-of b) c (flat (b .held)) lent a m bank out
+      → (c′ : Book) × CommandSays b c lent a out c′
+      × Landed (with-front c′ (ran (registers-of b) v a (marks-of c′) .front)) (state bank (rest-of (ran (registers-of b) v a m)))
+  unfolding Next
+  runs-next v (Get k) lent a m bank out (w, e) =
+      let n = get-next k lent a bank out w in
+      (n .0, n .1, command-next v a m bank (b .rest) (n .0) (n .2) (sym e))
+  runs-next v (Patrol k) lent a m bank out (w, e, o) =
+      let n = patrol-next k a bank w in
+      (n .0, (n .1, o), command-next v a m bank (b .rest) (n .0) (n .2) (sym e))
+  runs-next v (Mark c) lent a m bank out (w, e, o) =
+      let n = mark-next c a m w in (
+        n .0,
+        (n .1, o),
+        subst (λ (x : List ℕ). Landed (with-front (n .0) (ran (registers-of b) v a (marks-of (n .0)) .front)) (state x (rest-of (ran (registers-of b) v a m)))) (sym e)
+            (command-next v a m (flat (b .held)) (with-record (b .rest) m) (n .0) (n .2) refl),
+      )
+  runs-next v Unknown lent a m bank out w = absurd w
+
+  write-next : (p v : ℕ) (lent : List ℕ) (x : Answer) (r : Registers) (bank out : List ℕ) → WriteDone (registers-of b) p v (flat (b .held)) lent x r bank out
+      → (b′ : Book) × By (write-cause (registers-of b) p v) x ((b′ ≡ b) × (out ≡ lent)) ((x ≡ done) × WriteSays b p v lent out b′)
+      × Landed b′ (state bank (rest-of r))
+  unfolding WriteDone
+  write-next p v lent x r bank out w = by (write-cause (registers-of b) p v) w
+    where
+      writes : (p : ℕ) → Writes (registers-of b) p v (flat (b .held)) lent r bank out
+          → (b′ : Book) × WriteSays b p v lent out b′ × Landed b′ (state bank (rest-of r))
+      writes zero (a, m, d, e) =
+          let n = runs-next v (command-of (registers-of b) v) lent a m bank out d in (
+            with-front (n .0) (ran (registers-of b) v a (marks-of (n .0)) .front),
+            (a, n .0, n .1, refl),
+            subst (λ (y : Registers). Landed (with-front (n .0) (ran (registers-of b) v a (marks-of (n .0)) .front)) (state bank (rest-of y))) (sym e) (n .2),
+          )
+      writes (suc p) (e, f, o) = (
+        with-front b (stored (registers-of b) (suc p) v .front),
+        (refl, o),
+        record { state = ap₂ (λ (y : List ℕ) (s : Registers). state y (rest-of s)) f e; long = long },
+      )
+
+      by : (n : ℕ) → By n x ((r ≡ registers-of b) × (bank ≡ flat (b .held)) × (out ≡ lent)) ((x ≡ done) × Writes (registers-of b) p v (flat (b .held)) lent r bank out)
+          → (b′ : Book) × By n x ((b′ ≡ b) × (out ≡ lent)) ((x ≡ done) × WriteSays b p v lent out b′) × Landed b′ (state bank (rest-of r))
+      by zero (e, d) = let n = writes p d in (n .0, (e, n .1), n .2)
+      by (suc n) (e, (f, g, o)) = (b, (e, (refl, o)), record { state = ap₂ (λ (y : List ℕ) (z : Registers). state y (rest-of z)) g f; long = long })
+
   pub step : (e : Entry) (s : Seen) → EntryDone (state-of b) e s → (b′ : Book) × Step b e s b′ × EachLong 45 (b′ .held)
   step (call c) s w = call-step c s w
+  step (write a v lent) s (x, r, bank, out, w, e) =
+      let n = write-next a v lent x r bank out w in
+      rw e (n .0, record { says = (x, refl, n .1); after = n .2 .state; interrupt = told _ (n .0) (n .2 .state) }, n .2 .long)
   step (hit i x) s (h, v, e) =
       let n = hit-next i x (rw size-flat at h) in
-      rw e (with-held b (i / 45) (set (held-at b (i / 45)) (i % 45) x), record { says = (refl, refl, refl); after = n .state }, n .long)
+      rw e (with-held b (i / 45) (set (held-at b (i / 45)) (i % 45) x), record { says = (refl, refl, refl); after = n .state; interrupt = refl }, n .long)
 
 -- ---- any list
 whole-from : (b : Book) → EachLong 45 (b .held) → (σ : State) → σ ≡ state-of b → (es : List Entry) (ss : List Seen) → Ran σ es ss
@@ -200,4 +264,4 @@ whole-from b long σ i (e ∷ es) (s ∷ ss) (Ran.then c r) =
 
 pub whole : WholeList
 whole n lo hi es ss r = whole-from (fresh-book n) (each-replicate 45 n zeros refl) (fresh-state n)
-    (ap (λ (l : List ℕ). state l (rest-of fresh-marks)) (replicate-flat 45 n 0)) es ss r
+    (ap (λ (l : List ℕ). state l (rest-of fresh-registers)) (replicate-flat 45 n 0)) es ss r

@@ -1,20 +1,21 @@
--- The book, and lists of calls and hits. Document 01, "The book"; demand 3, second sentence.
+-- The book, and lists of calls, register writes and hits. Document 01, "The book"; demand 3, second sentence; document 02, order 1.
 --
---   Call, Entry      a call's arguments; an entry of the list: a call, or a hit
---   Rest, State      what is kept from one entry to the next: the bank, and the rest, which is the marks
---   Seen             what is seen of an entry: answer, output, and the state after it
+--   Call, Entry      a call's arguments; an entry of the list: a call, a register write, or a hit
+--   Rest, State      what is kept from one entry to the next: the bank, and the rest, which is the registers; the marks in force are in them
+--   Seen             what is seen of an entry: answer, output, the state after it, and the interrupt
 --   CallDone, EntryDone, Ran   a call, an entry, a list of entries, done by the functions' contracts, each on what the entry before left
 --   Book             for each block good and held, and the same rest
---   CallSays, Step, Booked   what the book says of a call, of an entry, of a list of entries
+--   CallSays         what the book says of a call; CommandSays: of a command, which stands for one; WriteSays: of a register write
+--   Step, Booked     what it says of an entry, of a list of entries
 --   WholeList        all that is seen of any list is what the book says
 --   AnyList          every list that can be asked for can be run
 --   OneBook          the book says one thing, but for the card with 11
-use Prim.Native.Nat.{ℕ, _*_, _/_, _%_, _≤_, _<_}
+use Prim.Native.Nat.{ℕ, zero, suc, _*_, _/_, _%_, _≤_, _<_}
 use mathlib.Core.Path.{_≡_}
+use mathlib.Core.Bool.{Bool}
 use mathlib.Core.List.{List, [], _∷_, _++_}
 use lib.ListN.{length, replicate, getD, set}
 use Rattle.answer.specs.Answer.{Answer, done, but-card, By}
-use Rattle.marks.specs.Marks.{fresh-marks}
 use Rattle.marks.specs.Mark.{mark-cause, marked, MarkDone}
 use Rattle.marks.specs.declared.Marks.{Marks}
 use Rattle.marks.specs.declared.MarkCall.{MarkCall}
@@ -23,6 +24,12 @@ use Rattle.code.specs.Labels.{built-in}
 use Rattle.reading.specs.Reading.{ReadsUnder}
 use Rattle.bank.specs.Calls.{clear-cause, put-cause, get-cause, patrol-cause, report-cause}
 use Rattle.bank.specs.Calls.{ClearDone, PutDone, GetDone, PatrolDone, ReportDone, CountsEach}
+use Rattle.registers.specs.Registers.{fresh-registers, raised}
+use Rattle.registers.specs.Write.{command-of, ran, stored, write-cause, WriteDone}
+use Rattle.registers.specs.Plain.{but-card-registers}
+use Rattle.registers.specs.declared.Registers.{Registers}
+use Rattle.registers.specs.declared.Command.{Command}
+use Rattle.registers.specs.declared.Command.the-variants.{Get, Patrol, Mark, Unknown}
 
 -- ---- the list
 pub data Call : Type 0 where
@@ -33,14 +40,16 @@ pub data Call : Type 0 where
   report : Call
   mark : (c : MarkCall) → Call
 
--- a hit sets byte i of the bank to x
+-- a register write of v to address a brings an output of its own; a hit sets byte i of the bank to x
 pub data Entry : Type 0 where
   call : Call → Entry
+  write : (a v : ℕ) (out : List ℕ) → Entry
   hit : (i x : ℕ) → Entry
 
 -- ---- what is kept, and what is seen
+-- bytes 8 to 11 of the registers are the mark record, for calls and commands alike
 pub record Rest : Type 0 where
-  pub marks : Marks
+  pub registers : Registers
 
 pub record State : Type 0 where
   pub bank : List ℕ
@@ -55,19 +64,27 @@ pub record Seen : Type 0 where
   pub said : Said
   pub output : List ℕ
   pub after : State
+  pub interrupt : Bool
 
 abbrev pub state : List ℕ → Rest → State
 state bank w = record { bank = bank; rest = w }
 
 abbrev pub seen : Said → List ℕ → State → Seen
-seen said out σ = record { said = said; output = out; after = σ }
+seen said out σ = record { said = said; output = out; after = σ; interrupt = raised (σ .rest .registers) }
 
-abbrev pub rest-of : Marks → Rest
-rest-of m = record { marks = m }
+abbrev pub rest-of : Registers → Rest
+rest-of r = record { registers = r }
 
--- n blocks, just cleared, and a fresh mark record
+abbrev pub in-force : Rest → Marks
+in-force w = w .registers .marks
+
+-- the registers with the mark record m
+abbrev pub with-record : Rest → Marks → Rest
+with-record w m = rest-of (record { front = w .registers .front; marks = m })
+
+-- n blocks, just cleared, and fresh registers
 abbrev pub fresh-state : ℕ → State
-fresh-state n = state (replicate (45 * n) 0) (rest-of fresh-marks)
+fresh-state n = state (replicate (45 * n) 0) (rest-of fresh-registers)
 
 -- ---- the calls: each does what the function's contract says, and leaves alone what the function is not handed
 abbrev pub CallDone : State → Call → Seen → Type 0
@@ -75,18 +92,21 @@ CallDone σ clear s = (a : Answer) × (bank′ : List ℕ) × ClearDone (σ .ban
 CallDone σ (put k rec) s =
     (a : Answer) × (bank′ : List ℕ) × (rec′ : List ℕ) × PutDone (σ .bank) k rec a bank′ rec′ × (s ≡ seen (says a) [] (state bank′ (σ .rest)))
 CallDone σ (get k out) s =
-    (a : Answer) × (bank′ : List ℕ) × (out′ : List ℕ) × GetDone (σ .bank) k (σ .rest .marks) out a bank′ out′
+    (a : Answer) × (bank′ : List ℕ) × (out′ : List ℕ) × GetDone (σ .bank) k (in-force (σ .rest)) out a bank′ out′
     × (s ≡ seen (says a) out′ (state bank′ (σ .rest)))
 CallDone σ (patrol k) s =
-    (a : Answer) × (bank′ : List ℕ) × PatrolDone (σ .bank) k (σ .rest .marks) a bank′ × (s ≡ seen (says a) [] (state bank′ (σ .rest)))
+    (a : Answer) × (bank′ : List ℕ) × PatrolDone (σ .bank) k (in-force (σ .rest)) a bank′ × (s ≡ seen (says a) [] (state bank′ (σ .rest)))
 CallDone σ report s =
-    (a : Answer) × (bank′ : List ℕ) × ReportDone (σ .bank) (σ .rest .marks) a bank′ × (s ≡ seen (says a) [] (state bank′ (σ .rest)))
+    (a : Answer) × (bank′ : List ℕ) × ReportDone (σ .bank) (in-force (σ .rest)) a bank′ × (s ≡ seen (says a) [] (state bank′ (σ .rest)))
 CallDone σ (mark c) s =
-    (a : Answer) × (m′ : Marks) × MarkDone (σ .rest .marks) c a m′ × (s ≡ seen (says a) [] (state (σ .bank) (rest-of m′)))
+    (a : Answer) × (m′ : Marks) × MarkDone (in-force (σ .rest)) c a m′ × (s ≡ seen (says a) [] (state (σ .bank) (with-record (σ .rest) m′)))
 
 -- "A hit sets any one byte of the bank to any value"
 abbrev pub EntryDone : State → Entry → Seen → Type 0
 EntryDone σ (call c) s = CallDone σ c s
+EntryDone σ (write a v out) s =
+    (x : Answer) × (r′ : Registers) × (bank′ : List ℕ) × (out′ : List ℕ) × WriteDone (σ .rest .registers) a v (σ .bank) out x r′ bank′ out′
+    × (s ≡ seen (says x) out′ (state bank′ (rest-of r′)))
 EntryDone σ (hit i x) s = (i < length (σ .bank)) × (x < 256) × (s ≡ seen nothing-said [] (state (set (σ .bank) i x) (σ .rest)))
 
 pub data Ran : State → List Entry → List Seen → Type 0 where
@@ -104,7 +124,7 @@ abbrev pub zero-book : ℕ → Rest → Book
 zero-book n w = record { good = replicate n zeros; held = replicate n zeros; rest = w }
 
 abbrev pub fresh-book : ℕ → Book
-fresh-book n = zero-book n (rest-of fresh-marks)
+fresh-book n = zero-book n (rest-of fresh-registers)
 
 -- the blocks one after the other
 abbrev pub flat : List (List ℕ) → List ℕ
@@ -115,21 +135,28 @@ flat (b ∷ bs) = b ++ flat bs
 abbrev pub state-of : Book → State
 state-of b = state (flat (b .held)) (b .rest)
 
--- how many blocks; the bytes of its bank; its marks; block k as held
+-- how many blocks; the bytes of its bank; its registers, and its marks; block k as held
 abbrev pub many : Book → ℕ
 many b = length (b .held)
 
 abbrev pub size : Book → ℕ
 size b = 45 * many b
 
+abbrev pub registers-of : Book → Registers
+registers-of b = b .rest .registers
+
 abbrev pub marks-of : Book → Marks
-marks-of b = b .rest .marks
+marks-of b = in-force (b .rest)
 
 abbrev pub held-at : Book → ℕ → List ℕ
 held-at b k = getD (b .held) k []
 
 abbrev pub with-marks : Book → Marks → Book
-with-marks b m = record { good = b .good; held = b .held; rest = rest-of m }
+with-marks b m = record { good = b .good; held = b .held; rest = with-record (b .rest) m }
+
+-- with other bytes 0 to 7
+abbrev pub with-front : Book → List ℕ → Book
+with-front b f = record { good = b .good; held = b .held; rest = rest-of (record { front = f; marks = marks-of b }) }
 
 abbrev pub with-held : Book → ℕ → List ℕ → Book
 with-held b k x = record { good = b .good; held = set (b .held) k x; rest = b .rest }
@@ -161,26 +188,45 @@ CallSays b report a out b′ =
 CallSays b (mark c) a out b′ =
     (out ≡ []) × By (mark-cause (marks-of b) c) a (b′ ≡ b) ((a ≡ done) × (b′ ≡ with-marks b (marked (marks-of b) c)))
 
+-- of a command: "Each command does what the library call does .., and may stand for it in demand 3's list."; the output, where the call
+-- is not handed it, stays
+abbrev pub CommandSays : Book → Command → List ℕ → Answer → List ℕ → Book → Type 0
+CommandSays b (Get k) lent a out b′ = CallSays b (get k lent) a out b′
+CommandSays b (Patrol k) lent a out b′ = CallSays b (patrol k) a [] b′ × (out ≡ lent)
+CommandSays b (Mark c) lent a out b′ = CallSays b (mark c) a [] b′ × (out ≡ lent)
+CommandSays b Unknown lent a out b′ = ⊥
+
+-- of a register write that is not refused, by its address: a command and then the registers after it; or one register
+abbrev pub WriteSays : Book → ℕ → ℕ → List ℕ → List ℕ → Book → Type 0
+WriteSays b zero v lent out b′ =
+    (a : Answer) × (c : Book) × CommandSays b (command-of (registers-of b) v) lent a out c
+    × (b′ ≡ with-front c (ran (registers-of b) v a (marks-of c) .front))
+WriteSays b (suc a) v lent out b′ = (b′ ≡ with-front b (stored (registers-of b) (suc a) v .front)) × (out ≡ lent)
+
 -- "that byte of the held block is set"
 abbrev pub Says : Book → Entry → Said → List ℕ → Book → Type 0
 Says b (call c) said out b′ = (a : Answer) × (said ≡ says a) × CallSays b c a out b′
+Says b (write a v lent) said out b′ =
+    (x : Answer) × (said ≡ says x) × By (write-cause (registers-of b) a v) x ((b′ ≡ b) × (out ≡ lent)) ((x ≡ done) × WriteSays b a v lent out b′)
 Says b (hit i x) said out b′ = (said ≡ nothing-said) × (out ≡ []) × (b′ ≡ with-held b (i / 45) (set (held-at b (i / 45)) (i % 45) x))
 
 pub record Step (b : Book) (e : Entry) (s : Seen) (b′ : Book) : Type 0 where
   pub says : Says b e (s .said) (s .output) b′
   pub after : s .after ≡ state-of b′
+  pub interrupt : s .interrupt ≡ raised (registers-of b′)
 
 pub data Booked : Book → List Entry → List Seen → Book → Type 0 where
   end : {b : Book} → Booked b [] [] b
   then : {b b′ b″ : Book} {e : Entry} {es : List Entry} {s : Seen} {ss : List Seen}
       → Step b e s b′ → Booked b′ es ss b″ → Booked b (e ∷ es) (s ∷ ss) b″
 
--- THE STATEMENT: from a cleared bank of n blocks and fresh marks, whatever calls and hits are made, all that is seen is what the book says
+-- THE STATEMENT: from a cleared bank of n blocks and fresh registers, whatever calls, register writes and hits are made, all that is seen is
+-- what the book says
 abbrev pub WholeList : Type 0
 WholeList = (n : ℕ) → 1 ≤ n → n ≤ 1024 → (es : List Entry) (ss : List Seen) → Ran (fresh-state n) es ss → (b : Book) × Booked (fresh-book n) es ss b
 
 -- ---- the statement is about something
--- bytes are numbers below 256: a record's, and what a hit sets, which lies in the bank of n blocks
+-- bytes are numbers below 256: a record's, and what a hit sets, which lies in the bank of n blocks; of a register write nothing is asked
 abbrev pub Bytes : List ℕ → Type 0
 Bytes l = (p : ℕ) → p < length l → getD l p 0 < 256
 
@@ -191,6 +237,7 @@ Possible n (call (get k out)) = Unit {0}
 Possible n (call (patrol k)) = Unit {0}
 Possible n (call report) = Unit {0}
 Possible n (call (mark c)) = Unit {0}
+Possible n (write a v out) = Unit {0}
 Possible n (hit i x) = (i < 45 * n) × (x < 256)
 
 abbrev pub AllPossible : ℕ → List Entry → Type 0
@@ -202,15 +249,29 @@ abbrev pub AnyList : Type 0
 AnyList = (n : ℕ) (es : List Entry) → AllPossible n es → (ss : List Seen) × Ran (fresh-state n) es ss
 
 -- ---- the book says one thing
--- the same is said, but for "The card with 11 may be any that its row allows."
+-- the same is said, but for "The card with 11 may be any that its row allows.", which is told by an answer and by byte 5
 abbrev pub but-card-said : Said → Said
 but-card-said (says a) = says (but-card a)
 but-card-said nothing-said = nothing-said
 
+abbrev pub but-card-rest : Rest → Rest
+but-card-rest w = rest-of (but-card-registers (w .registers))
+
+abbrev pub but-card-seen : Seen → Seen
+but-card-seen s = record {
+  said = but-card-said (s .said);
+  output = s .output;
+  after = state (s .after .bank) (but-card-rest (s .after .rest));
+  interrupt = s .interrupt;
+}
+
 abbrev pub but-cards : List Seen → List Seen
 but-cards [] = []
-but-cards (s ∷ ss) = seen (but-card-said (s .said)) (s .output) (s .after) ∷ but-cards ss
+but-cards (s ∷ ss) = but-card-seen s ∷ but-cards ss
+
+abbrev pub but-card-book : Book → Book
+but-card-book b = record { good = b .good; held = b .held; rest = but-card-rest (b .rest) }
 
 abbrev pub OneBook : Type 0
 OneBook = (n : ℕ) (es : List Entry) (ss ss′ : List Seen) (b b′ : Book) → Booked (fresh-book n) es ss b → Booked (fresh-book n) es ss′ b′
-    → (but-cards ss ≡ but-cards ss′) × (b ≡ b′)
+    → (but-cards ss ≡ but-cards ss′) × (but-card-book b ≡ but-card-book b′)

@@ -2,27 +2,28 @@
 --
 --   layout                 codes in figures
 --   split, split-totals    the header's functions give back the parts that a code was packed of; ..-small: whatever the code, within their types
---   numbered               numbers that stand for a refusal with nothing more
 --   chips-coded, card-coded                   what the parts of the code of "chips" and of "card" are
 --   outcome-back, reading-back, report-back   the answer told by the parts of a code is the answer it is the code of
+--   value-layout, value-back   the same of a register's byte, or the number of its refusal
 --   outcome-number, reading-number, report-number   the number in a code is 01's number of the answer
 --   outcome-one, reading-one, report-one      two answers of such a call with one code are the same
 --   outcome-fits, reading-fits, report-fits   32 bits, and 63 for a report
-use Prim.Native.Nat.{ℕ, _^_, _<_, _≤_}
-use mathlib.Core.Logic.{inl, inr}
+use Prim.Native.Nat.{ℕ, _*_, _^_, _<_, _≤_}
 use mathlib.Core.Path.{_≡_, refl, sym, ap, _∙_}
-use mathlib.Core.Bool.{Bool, true, false, _&&_}
-use mathlib.Core.List.{List, [], _∷_}
+use mathlib.Core.Bool.{true, false}
+use mathlib.Core.List.{List}
 use native.Mathlib.Omega.{arith}
-use lib.Dec.{leb, eqb}
-use borrow.Author.Tests.{leb-true, eq-eqb, ne-eqb}
+use lib.Dec.{eqb}
+use borrow.Author.Tests.{eq-eqb, ne-eqb}
 use Rattle.base.specs.Base.{In}
 use Rattle.answer.specs.Answer.{Answer, number, done, clean, in-chips, in-card, counted, refused, refused-card}
-use Rattle.marks.proofs.Tests.{both}
+use Rattle.answer.proofs.Gives.{Outcomes, was-done, was-refused, Readings, was-clean, was-in-chips, was-in-card, was-several, not-read}
+use Rattle.answer.proofs.Gives.{Reports, were-counted, not-counted, numbered, number-of}
 use Rattle.capi.specs.Codes.{packed, packed-totals, code, number-in, kind-in, card-in, n-in, clean-in, chips-in, cards-in, none-in, several-in}
+use Rattle.registers.specs.declared.Value.{Value}
+use Rattle.registers.specs.declared.Value.the-variants.{Byte, Refused}
+use Rattle.capi.specs.Codes.{value-code, byte-in, value-in}
 use Rattle.capi.specs.Codes.{by-number, corrected-as, refused-as, outcome-in, reading-in, report-in}
-use Rattle.capi.proofs.Gives.{Outcomes, was-done, was-refused, Readings, was-clean, was-in-chips, was-in-card, was-several, not-read}
-use Rattle.capi.proofs.Gives.{Reports, were-counted, not-counted}
 
 -- in figures: the header's layout, each part at its bits
 pub layout : (code done ≡ 0) × (code clean ≡ 0) × (code (in-chips 9) ≡ 0x09000100)
@@ -47,19 +48,25 @@ split-small c = (omega arith, omega arith, omega arith, omega arith)
 pub split-totals-small : (c : ℕ) → (clean-in c < 2048) × (chips-in c < 2048) × (cards-in c < 2048) × (none-in c < 2048) × (several-in c < 2048)
 split-totals-small c = (omega arith, omega arith, omega arith, omega arith, omega arith)
 
--- ---- numbers of refusals: 1 to 10; 11 comes with a card
-abbrev pub numbered : List ℕ → Bool
-numbered [] = true
-numbered (n ∷ ns) = (leb 1 n && leb n 10) && numbered ns
+-- ---- a register
+pub value-layout : (value-code (Byte 44) ≡ 0x00002C00) × (value-code (Refused 12) ≡ 0x0000000C)
+value-layout = (refl, refl)
 
-number-of : (ns : List ℕ) → numbered ns ≡ true → (n : ℕ) → In n ns → (1 ≤ n) × (n ≤ 10)
-number-of [] t n h = absurd h
-number-of (m ∷ ns) t n (inl e) =
-    let r = both (leb 1 m) (leb m 10) (both (leb 1 m && leb m 10) (numbered ns) t .0) in
-    (omega (arith, e, leb-true 1 m (r .0)), omega (arith, e, leb-true m 10 (r .1)))
-number-of (m ∷ ns) t n (inr h) = number-of ns (both (leb 1 m && leb m 10) (numbered ns) t .1) n h
+abbrev pub ValueFits : Value → Type 0
+ValueFits (Byte x) = x < 256
+ValueFits (Refused n) = (1 ≤ n) × (n < 256)
 
--- of a call that refuses with the numbers ns
+pub value-back : (x : Value) → ValueFits x → value-in (value-code x) ≡ x
+unfolding value-in
+value-back (Byte x) h =
+    let n : number-in (2 ^ 8 * x) ≡ 0 = omega arith in
+    let b : byte-in (2 ^ 8 * x) ≡ x = omega arith in
+    simp (n, b)
+value-back (Refused n) h =
+    let m : number-in n ≡ n = omega arith in
+    simp (m, ne-eqb n 0 (λ z. omega (arith, z)))
+
+-- ---- answers, of a call that refuses with the numbers ns
 module _ (ns : List ℕ) (some : numbered ns ≡ true) where
   -- ---- every answer comes back
   number-back : (n : ℕ) → In n ns → (number-in (code (refused n)) ≡ n) × (eqb n 0 ≡ false) × (eqb n 11 ≡ false)
@@ -67,7 +74,7 @@ module _ (ns : List ℕ) (some : numbered ns ≡ true) where
       let h = number-of ns some n i in (
         split n 0 0 0 (omega (arith, h .1)) (omega arith) (omega arith) (omega arith) .0,
         ne-eqb n 0 (λ z. omega (arith, h .0, z)),
-        ne-eqb n 11 (λ z. omega (arith, h .1, z)),
+        ne-eqb n 11 (h .2),
       )
 
   pub outcome-back : (a : Answer) → Outcomes ns a → outcome-in (code a) ≡ a
@@ -137,15 +144,15 @@ module _ (ns : List ℕ) (some : numbered ns ≡ true) where
   -- ---- and every code fits: a report's 63 bits, and the others 32
   pub outcome-fits : (a : Answer) → Outcomes ns a → code a < 2 ^ 32
   outcome-fits done was-done = omega arith
-  outcome-fits (refused n) (was-refused i) = omega (arith, number-of ns some n i)
+  outcome-fits (refused n) (was-refused i) = omega (arith, number-of ns some n i .1)
 
   pub reading-fits : (a : Answer) → Readings ns a → code a < 2 ^ 32
   reading-fits clean was-clean = omega arith
   reading-fits (in-chips n) (was-in-chips h) = omega (arith, h)
   reading-fits (in-card j n) (was-in-card h i) = omega (arith, h, i)
   reading-fits (refused-card n j) (was-several e h) = omega (arith, e, h)
-  reading-fits (refused n) (not-read i) = omega (arith, number-of ns some n i)
+  reading-fits (refused n) (not-read i) = omega (arith, number-of ns some n i .1)
 
   pub report-fits : (a : Answer) → Reports ns a → code a < 2 ^ 63
   report-fits (counted u v x y z) (were-counted a b c d e) = omega (arith, a, b, c, d, e)
-  report-fits (refused n) (not-counted i) = omega (arith, number-of ns some n i)
+  report-fits (refused n) (not-counted i) = omega (arith, number-of ns some n i .1)

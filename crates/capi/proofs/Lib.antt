@@ -1,5 +1,5 @@
 pub mod Codes
-pub mod Gives
 pub mod Written
+pub mod Gives
 pub mod Told
 pub mod Tied

@@ -11,6 +11,7 @@ use denote.Triple.Clauses
 use denote.Ref.{now}
 use Rattle.marks.specs.declared.MarkCall.the-variants.{PlaceChip, LiftChip, PlaceCard, LiftCard}
 use Rattle.capi.specs.Exports.{StoreCoded, ReadCoded, ClearCoded, PutCoded, GetCoded, PatrolCoded, ReportCoded, MarkCoded}
+use Rattle.capi.specs.Exports.{WriteCoded, RegisterCoded, InterruptCoded}
 use Rattle.capi.proofs.livomashen_store as store
 use Rattle.capi.proofs.livomashen_store.Kinds as store-kinds
 use Rattle.capi.proofs.livomashen_store.Reads as store-reads
@@ -44,6 +45,15 @@ use Rattle.capi.proofs.livomashen_place_card.Reads as place-card-reads
 use Rattle.capi.proofs.livomashen_lift_card as lift-card
 use Rattle.capi.proofs.livomashen_lift_card.Kinds as lift-card-kinds
 use Rattle.capi.proofs.livomashen_lift_card.Reads as lift-card-reads
+use Rattle.capi.proofs.livomashen_write_register as write-register
+use Rattle.capi.proofs.livomashen_write_register.Kinds as write-register-kinds
+use Rattle.capi.proofs.livomashen_write_register.Reads as write-register-reads
+use Rattle.capi.proofs.livomashen_read_register as read-register
+use Rattle.capi.proofs.livomashen_read_register.Kinds as read-register-kinds
+use Rattle.capi.proofs.livomashen_read_register.Reads as read-register-reads
+use Rattle.capi.proofs.livomashen_interrupt as interrupt
+use Rattle.capi.proofs.livomashen_interrupt.Kinds as interrupt-kinds
+use Rattle.capi.proofs.livomashen_interrupt.Reads as interrupt-reads
 
 -- store: record, output
 pub store-tied : (κs : Lifetimes.Lfts 2) (a : World.ArgsD store.signature κs) (r : World.ResD store.signature κs)
@@ -154,3 +164,34 @@ lift-card-tied κs a r s l = l
 
 pub lift-card-asks : (κs : Lifetimes.Lfts 1) (a : World.ArgsD lift-card.signature κs) → lift-card-reads.Asked κs a
 lift-card-asks κs a = tt
+
+-- write register: registers, address, value, bank, output
+pub write-register-tied : (κs : Lifetimes.Lfts 3) (a : World.ArgsD write-register.signature κs) (r : World.ResD write-register.signature κs)
+    (s : Clauses.AtExit (Kinds.endedOf 3 write-register-kinds.ps write-register-kinds.r) κs)
+    → write-register-reads.Learnt κs a r s
+    → WriteCoded (now (a .0)) (a .1 .0) (a .1 .1 .0) (now (a .1 .1 .1 .0)) (now (a .1 .1 .1 .1 .0)) r (now (s .0)) (now (s .1 .1 .1 .0))
+    (now (s .1 .1 .1 .1 .0))
+write-register-tied κs a r s l = l
+
+pub write-register-asks : (κs : Lifetimes.Lfts 3) (a : World.ArgsD write-register.signature κs) → write-register-reads.Asked κs a
+write-register-asks κs a = tt
+
+-- read register: registers, address
+pub read-register-tied : (κs : Lifetimes.Lfts 1) (a : World.ArgsD read-register.signature κs) (r : World.ResD read-register.signature κs)
+    (s : Clauses.AtExit (Kinds.endedOf 1 read-register-kinds.ps read-register-kinds.r) κs)
+    → read-register-reads.Learnt κs a r s
+    → RegisterCoded (now (a .0)) (a .1 .0) r (now (s .0))
+read-register-tied κs a r s l = l
+
+pub read-register-asks : (κs : Lifetimes.Lfts 1) (a : World.ArgsD read-register.signature κs) → read-register-reads.Asked κs a
+read-register-asks κs a = tt
+
+-- interrupt: registers
+pub interrupt-tied : (κs : Lifetimes.Lfts 1) (a : World.ArgsD interrupt.signature κs) (r : World.ResD interrupt.signature κs)
+    (s : Clauses.AtExit (Kinds.endedOf 1 interrupt-kinds.ps interrupt-kinds.r) κs)
+    → interrupt-reads.Learnt κs a r s
+    → InterruptCoded (now (a .0)) r (now (s .0))
+interrupt-tied κs a r s l = l
+
+pub interrupt-asks : (κs : Lifetimes.Lfts 1) (a : World.ArgsD interrupt.signature κs) → interrupt-reads.Asked κs a
+interrupt-asks κs a = tt

@@ -4,23 +4,42 @@
 --   told, told-under   every export's contract tells its answer
 --   store-told, read-told, clear-told, put-told, get-told, patrol-told, report-told, mark-told   the exports, each with all that was lent for reading as before
 --   mark-record-told   placing and lifting, of the record in the bytes
-use Prim.Native.Nat.{ℕ}
+--   write-told         a register write, of the registers in the bytes; command-told: a command, by the call's own relation
+--   register-told      the byte that a read gives; interrupt-told: the interrupt
+use Prim.Native.Nat.{ℕ, _<_}
 use mathlib.Core.Path.{_≡_, refl, sym, ap, _∙_, subst}
+use mathlib.Core.Bool.{Bool, true, false}
+use mathlib.Core.Logic.{_↔_}
 use mathlib.Core.List.{List, [], _∷_}
+use native.Mathlib.Omega.{arith}
+use lib.Dec.{ltb}
+use lib.ListN.{length, getD}
+use Rattle.base.specs.Base.{if, bit}
 use Rattle.answer.specs.Answer.{Answer}
+use Rattle.answer.proofs.Gives.{Outcomes}
 use Rattle.marks.specs.Marks.{marks-in}
 use Rattle.marks.specs.Mark.{MarkDone}
 use Rattle.marks.specs.declared.Marks.{Marks}
 use Rattle.marks.specs.declared.MarkCall.{MarkCall}
 use Rattle.marks.specs.declared.MarkCall.the-variants.{PlaceChip, LiftChip, PlaceCard, LiftCard}
+use Rattle.marks.proofs.Gives.{mark-numbers}
 use Rattle.store.specs.Store.{StoreDone}
 use Rattle.block.specs.Read.{ReadDone}
 use Rattle.bank.specs.Calls.{ClearDone, PutDone, GetDone, PatrolDone, ReportDone}
-use Rattle.capi.specs.Codes.{code, outcome-in, reading-in, report-in}
+use Rattle.bank.proofs.Gives.{clear-gives, put-gives, get-gives, patrol-gives, report-gives}
+use Rattle.registers.specs.Registers.{registers-in, is-set, raised}
+use Rattle.registers.specs.Write.{command-of, Runs, write-cause, WriteDone, read-value}
+use Rattle.registers.specs.Plain.{answer-in}
+use Rattle.registers.specs.declared.Value.the-variants.{Byte, Refused}
+use Rattle.registers.proofs.Plain.{raised-exactly, bytes-back}
+use Rattle.registers.proofs.Leaves.{commands-leave}
+use Rattle.registers.proofs.Formed.{write-gives}
+use Rattle.capi.specs.Codes.{code, value-code, outcome-in, reading-in, report-in, value-in}
 use Rattle.capi.specs.Exports.{Coded, CodedUnder, StoreCoded, ReadCoded, ClearCoded, PutCoded, GetCoded, PatrolCoded, ReportCoded, Marked, MarkCoded}
-use Rattle.capi.proofs.Gives.{store-gives, clear-gives, put-gives, mark-gives, read-gives, get-gives, patrol-gives, report-gives, Outcomes, mark-numbers}
-use Rattle.capi.proofs.Codes.{outcome-back, reading-back, report-back}
-use Rattle.capi.proofs.Written.{marked-done}
+use Rattle.capi.specs.Exports.{WriteCoded, RegisterCoded, InterruptCoded}
+use Rattle.capi.proofs.Gives.{store-gives, read-gives, mark-gives}
+use Rattle.capi.proofs.Codes.{ValueFits, value-back, outcome-back, reading-back, report-back}
+use Rattle.capi.proofs.Written.{accepted, marked-done, write-done}
 
 pub record Told (Says : Answer → Type 0) (f : ℕ → Answer) (c : ℕ) : Type 0 where
   pub says : Says (f c)
@@ -82,3 +101,43 @@ pub report-told : (bank m : List ℕ) (c : ℕ) (bank′ m′ : List ℕ) → Re
     → Told (λ a. ReportDone bank (marks-in m) a bank′) report-in c × (m′ ≡ m)
 report-told bank m c bank′ m′ w =
     told-under (λ n a. ReportDone bank n a bank′) report-in (λ n a d. report-back (4 ∷ 6 ∷ 7 ∷ []) refl a (report-gives bank n a bank′ d)) m c m′ w
+
+-- ---- registers
+pub write-told : (b : List ℕ) (a v : ℕ) (bank out : List ℕ) (c : ℕ) (b′ bank′ out′ : List ℕ) → WriteCoded b a v bank out c b′ bank′ out′
+    → Told (λ x. WriteDone (registers-in b) a v bank out x (registers-in b′) bank′ out′) outcome-in c
+write-told b a v bank out c b′ bank′ out′ w =
+    told _ outcome-in (λ x d. outcome-back (12 ∷ 13 ∷ 14 ∷ []) refl x (write-gives (registers-in b) a v bank out x (registers-in b′) bank′ out′ d)) c
+    (record { answer = w .answer; says = write-done b a v bank out (w .answer) b′ bank′ out′ (w .says); coded = w .coded })
+
+-- twelve bytes: the one at the address, or 12
+pub register-told : (b : List ℕ) → length b ≡ 12 → ((p : ℕ) → getD b p 0 < 256) → (a c : ℕ) (b′ : List ℕ) → RegisterCoded b a c b′
+    → value-in c ≡ if (ltb 11 a) (Refused 12) (Byte (getD b a 0))
+unfolding read-value
+register-told b l h a c b′ (e, k) =
+    ap value-in (e ∙ ap (λ (x : List ℕ). value-code (if (ltb 11 a) (Refused 12) (Byte (getD x a 0)))) (bytes-back b l)) ∙ value-back _ (fits (ltb 11 a))
+  where
+    fits : (t : Bool) → ValueFits (if t (Refused 12) (Byte (getD b a 0)))
+    fits true = (omega arith, omega arith)
+    fits false = h a
+
+-- a command through C: what its call says, with the answer that bytes 4 and 5 tell
+pub command-told : (b : List ℕ) (v : ℕ) (bank out : List ℕ) (b′ bank′ out′ : List ℕ) → WriteCoded b 0 v bank out 0 b′ bank′ out′
+    → Runs (registers-in b .marks) (command-of (registers-in b) v) bank out (answer-in (getD b′ 4 0) (getD b′ 5 0)) (registers-in b′ .marks) bank′ out′
+unfolding WriteDone registers-in
+command-told b v bank out b′ bank′ out′ w =
+    let t = write-told b 0 v bank out 0 b′ bank′ out′ w in
+    let n = accepted (write-cause (registers-in b) 0 v) (outcome-in 0) _ _ (t .says) (sym (t .coded)) in
+    commands-leave (registers-in b) v bank out (outcome-in 0) (registers-in b′) bank′ out′ n (t .says) .call
+
+-- 1 exactly while bytes 6 and 7 share a set bit
+pub interrupt-told : (b : List ℕ) (c : ℕ) (b′ : List ℕ) → InterruptCoded b c b′
+    → (c ≡ 1) ↔ ((i : ℕ) × (i < 8) × (is-set i (getD b 6 0) ≡ true) × (is-set i (getD b 7 0) ≡ true))
+unfolding registers-in
+interrupt-told b c b′ (e, k) = (there, λ w. e ∙ ap bit (raised-exactly (registers-in b) .1 w))
+  where
+    was : (t : Bool) → bit t ≡ 1 → t ≡ true
+    was true z = refl
+    was false z = absurd (omega arith)
+
+    there : c ≡ 1 → (i : ℕ) × (i < 8) × (is-set i (getD b 6 0) ≡ true) × (is-set i (getD b 7 0) ≡ true)
+    there z = raised-exactly (registers-in b) .0 (was (raised (registers-in b)) (sym e ∙ z))

@@ -1,9 +1,11 @@
--- The bytes after placing or lifting a mark, as the code leaves them.
+-- The bytes after placing or lifting a mark, and after a register write, as the code leaves them.
 --
 --   accepted    a code of 0 is given only where nothing is refused
 --   four        then the bytes were four
 --   written     the bytes of the new record, copied over them; left: on a refusal nothing is written
 --   marked-done what is said of the bytes is what the library says of the record in them
+--   write-back, write-left    a register write: the bytes of the registers after it; on a refusal nothing is written
+--   write-done  what is said of the twelve bytes is what the library says of the registers in them
 use Prim.Native.Nat.{ℕ, zero, suc}
 use mathlib.Core.Logic.{_≢_, by-cases}
 use mathlib.Core.Path.{_≡_, refl, sym, ap, ap₂, _∙_, subst}
@@ -19,10 +21,14 @@ use Rattle.marks.specs.Mark.{marked, mark-cause, MarkDone}
 use Rattle.marks.specs.declared.Marks.{Marks}
 use Rattle.marks.specs.declared.MarkCall.{MarkCall}
 use Rattle.marks.proofs.Laws.{lawful-cause, four-long, marks-in-bytes, marks-in-other, can, mark-done, marked-lawful}
+use Rattle.registers.specs.Registers.{register-bytes, registers-in}
+use Rattle.registers.specs.Write.{write-cause, WriteDone}
+use Rattle.registers.specs.declared.Registers.{Registers}
+use Rattle.registers.proofs.Formed.{Formed, formed-back, formed-in, write-formed}
 use Rattle.capi.specs.Codes.{code}
-use Rattle.capi.specs.Exports.{Marked, MarkCoded}
+use Rattle.capi.specs.Exports.{Marked, MarkCoded, RegisterWritten, WriteCoded}
 
-accepted : (n : ℕ) (a : Answer) (U D : Type 0) → By n a U D → code a ≡ 0 → n ≡ 0
+pub accepted : (n : ℕ) (a : Answer) (U D : Type 0) → By n a U D → code a ≡ 0 → n ≡ 0
 accepted zero a U D w e = refl
 accepted (suc n) a U D w e = absurd (omega (arith, e, ap code (w .0)))
 
@@ -63,3 +69,43 @@ pub marked-done : (b : List ℕ) (call : MarkCall) (a : Answer) (b′ : List ℕ
 unfolding MarkDone
 marked-done b call a b′ w = by-map (mark-cause (marks-in b) call) a (b′ ≡ b) ((a ≡ done) × (b′ ≡ bytes (marked (marks-in b) call))) _ _ (λ u. ap marks-in u)
     (λ z d. (d .0, ap marks-in (d .1) ∙ marks-in-bytes (marked (marks-in b) call) (marked-lawful (marks-in b) call z))) w
+
+-- ---- registers
+-- a write on the registers r in the bytes b: it answers x, of which c is the code, and r′ are the registers after it
+module _ (b : List ℕ) (a v : ℕ) (bank out : List ℕ) (r : Registers) (x : Answer) (r′ : Registers) (bank′ out′ : List ℕ) (c : ℕ)
+    (in-bytes : r ≡ registers-in b) (said : WriteDone r a v bank out x r′ bank′ out′) (coded : c ≡ code x) where
+  on-registers : WriteDone (registers-in b) a v bank out x r′ bank′ out′
+  on-registers = subst (λ (s : Registers). WriteDone s a v bank out x r′ bank′ out′) in-bytes said
+
+  pub write-back : c ≡ 0 → (b′ : List ℕ) → b′ ≡ register-bytes r′ → WriteCoded b a v bank out c b′ bank′ out′
+  unfolding WriteDone
+  write-back z b′ e = record {
+    answer = x;
+    says = (r′, on-registers, by-done _ x _ _ (accepted (write-cause (registers-in b) a v) x _ _ on-registers (sym coded ∙ z)) e);
+    coded = coded;
+  }
+
+  pub write-left : c ≢ 0 → WriteCoded b a v bank out c b bank′ out′
+  unfolding WriteDone
+  write-left ne = record {
+    answer = x;
+    says = (r′, on-registers, by-map (write-cause (registers-in b) a v) x _ _ (b ≡ b) _ (λ u. refl) (λ z d. absurd (ne (coded ∙ ap code (d .0)))) on-registers);
+    coded = coded;
+  }
+
+-- the registers after it are those in the bytes after it
+pub write-done : (b : List ℕ) (a v : ℕ) (bank out : List ℕ) (x : Answer) (b′ bank′ out′ : List ℕ) → RegisterWritten b a v bank out x b′ bank′ out′
+    → WriteDone (registers-in b) a v bank out x (registers-in b′) bank′ out′
+unfolding WriteDone
+write-done b a v bank out x b′ bank′ out′ (r′, w, h) = subst (λ (s : Registers). WriteDone (registers-in b) a v bank out x s bank′ out′) (sym same) w
+  where
+    formed : Formed r′
+    formed = write-formed (registers-in b) a v bank out x r′ bank′ out′ (formed-in b) w
+
+    by : (n : ℕ) (D : Type 0) → By n x ((r′ ≡ registers-in b) × (bank′ ≡ bank) × (out′ ≡ out)) D → By n x (b′ ≡ b) (b′ ≡ register-bytes r′)
+        → registers-in b′ ≡ r′
+    by zero D d e = ap registers-in e ∙ formed-back r′ formed
+    by (suc n) D (q, (e, u, o)) (p, f) = ap registers-in f ∙ sym e
+
+    same : registers-in b′ ≡ r′
+    same = by (write-cause (registers-in b) a v) _ w h

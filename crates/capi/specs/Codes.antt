@@ -2,13 +2,18 @@
 --
 --   code a      bits 0 to 7 the number; 8 to 15 the kind (0 clean, 1 chips, 2 card); 16 to 23 the card; 24 to 31 n.
 --               Of a report: bits 0 to 7 the number; from bit 8 the totals, 11 bits each: clean, chips, card, none, several
+--   value-code  of a register that is read: bits 0 to 7 the number, 8 to 15 the byte
 --   bits i l c  the l bits of c from bit i on: C's shift by i, and its mask
 --   number-in, kind-in, card-in, n-in                        livomashen_split_answer
 --   number-in, clean-in, chips-in, cards-in, none-in, several-in   livomashen_split_report
---   outcome-in, reading-in, report-in   the answer that the parts of a code tell: of a call that is done or refused, of a reading, of a report
+--   number-in, byte-in                                       livomashen_split_register
+--   outcome-in, reading-in, report-in, value-in   what the parts of a code tell: of a call that is done or refused, of a reading, of a report,
+--               of a register
 use Prim.Native.Nat.{ℕ, _+_, _*_, _/_, _%_, _^_}
 use lib.Dec.{eqb}
 use Rattle.base.specs.Base.{if}
+use Rattle.registers.specs.declared.Value.{Value}
+use Rattle.registers.specs.declared.Value.the-variants.{Byte, Refused}
 use Rattle.answer.specs.Answer.{Answer, done, clean, in-chips, in-card, counted, refused, refused-card}
 
 -- ---- the code of an answer
@@ -28,6 +33,10 @@ code (counted v w x y z) = packed-totals v w x y z
 code (refused n) = packed n 0 0 0
 code (refused-card n j) = packed n 0 j 0
 
+abbrev pub value-code : Value → ℕ
+value-code (Byte x) = 2 ^ 8 * x
+value-code (Refused n) = n
+
 -- ---- a code taken apart
 abbrev pub bits : ℕ → ℕ → ℕ → ℕ
 bits i l c = c / 2 ^ i % 2 ^ l
@@ -43,6 +52,9 @@ card-in c = bits 16 8 c
 
 abbrev pub n-in : ℕ → ℕ
 n-in c = bits 24 8 c
+
+abbrev pub byte-in : ℕ → ℕ
+byte-in c = bits 8 8 c
 
 abbrev pub clean-in : ℕ → ℕ
 clean-in c = bits 8 11 c
@@ -79,3 +91,6 @@ reading-in c = by-number (number-in c) (corrected-as (kind-in c) (card-in c) (n-
 
 unfoldable pub report-in : ℕ → Answer
 report-in c = by-number (number-in c) (counted (clean-in c) (chips-in c) (cards-in c) (none-in c) (several-in c)) (refused (number-in c))
+
+unfoldable pub value-in : ℕ → Value
+value-in c = if (eqb (number-in c) 0) (Byte (byte-in c)) (Refused (number-in c))

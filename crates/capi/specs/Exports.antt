@@ -4,11 +4,13 @@
 --   CodedUnder Says m c m′   the same, of a call under the mark record in the bytes m, which are as before
 --   StoreCoded, ReadCoded, ClearCoded, PutCoded, GetCoded, PatrolCoded, ReportCoded
 --   MarkCoded                placing and lifting, in the bytes themselves
+--   WriteCoded               a register written, in the twelve bytes themselves; RegisterCoded: one read; InterruptCoded: the interrupt
 --
 -- A primed name is what the bytes hold after the call.
 use mathlib.Core.Path.{_≡_}
 use mathlib.Core.List.{List}
 use Prim.Native.Nat.{ℕ}
+use Rattle.base.specs.Base.{bit}
 use Rattle.answer.specs.Answer.{Answer, done, By}
 use Rattle.marks.specs.Marks.{bytes, marks-in}
 use Rattle.marks.specs.Mark.{mark-cause, marked}
@@ -17,7 +19,10 @@ use Rattle.marks.specs.declared.MarkCall.{MarkCall}
 use Rattle.store.specs.Store.{StoreDone}
 use Rattle.block.specs.Read.{ReadDone}
 use Rattle.bank.specs.Calls.{ClearDone, PutDone, GetDone, PatrolDone, ReportDone}
-use Rattle.capi.specs.Codes.{code}
+use Rattle.registers.specs.Registers.{register-bytes, registers-in, raised}
+use Rattle.registers.specs.Write.{write-cause, WriteDone, read-value}
+use Rattle.registers.specs.declared.Registers.{Registers}
+use Rattle.capi.specs.Codes.{code, value-code}
 
 pub record Coded (Says : Answer → Type 0) (c : ℕ) : Type 0 where
   pub answer : Answer
@@ -57,3 +62,20 @@ Marked m call a m′ = By (mark-cause (marks-in m) call) a (m′ ≡ m) ((a ≡ 
 
 abbrev pub MarkCoded : List ℕ → MarkCall → ℕ → List ℕ → Type 0
 MarkCoded m call c m′ = Coded (λ a. Marked m call a m′) c
+
+-- the bytes of the registers after the write; a refused write leaves them
+abbrev pub RegisterWritten : List ℕ → ℕ → ℕ → List ℕ → List ℕ → Answer → List ℕ → List ℕ → List ℕ → Type 0
+RegisterWritten b a v bank out x b′ bank′ out′ =
+    (r′ : Registers) × WriteDone (registers-in b) a v bank out x r′ bank′ out′
+    × By (write-cause (registers-in b) a v) x (b′ ≡ b) (b′ ≡ register-bytes r′)
+
+abbrev pub WriteCoded : List ℕ → ℕ → ℕ → List ℕ → List ℕ → ℕ → List ℕ → List ℕ → List ℕ → Type 0
+WriteCoded b a v bank out c b′ bank′ out′ = Coded (λ x. RegisterWritten b a v bank out x b′ bank′ out′) c
+
+-- the byte, or 12; and the bytes are as before
+abbrev pub RegisterCoded : List ℕ → ℕ → ℕ → List ℕ → Type 0
+RegisterCoded b a c b′ = (c ≡ value-code (read-value (registers-in b) a)) × (b′ ≡ b)
+
+-- 1 while it is raised, else 0
+abbrev pub InterruptCoded : List ℕ → ℕ → List ℕ → Type 0
+InterruptCoded b c b′ = (c ≡ bit (raised (registers-in b))) × (b′ ≡ b)

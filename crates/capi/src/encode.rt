@@ -1,14 +1,16 @@
-// Answers as codes: bits 0 to 7 are the number; 8 to 15 the kind, 16 to 23 the card, 24 to 31 n; of a report, the totals from bit 8.
+// Answers as codes: bits 0 to 7 are the number; 8 to 15 the kind, 16 to 23 the card, 24 to 31 n; of a report, the totals from bit 8; of a
+// register, its byte from bit 8.
 ghost use mathlib.Core.Path.{_≡_};
 ghost use Prim.Native.Nat.{_≤_};
 ghost use Rattle.answer.specs.Answer.{outcome-answer};
 ghost use Rattle.reading.specs.Reading.{reading-answer};
 ghost use Rattle.reading.specs.declared.Reading.the-variants.{Corrected};
-ghost use Rattle.capi.specs.Codes.{code, packed, packed-totals};
+ghost use Rattle.capi.specs.Codes.{code, packed, packed-totals, value-code};
 use answer::Outcome;
 use bank::Totals;
 use reading::Kind;
 use reading::Reading;
+use registers::Value;
 
 fn packed(number: u8, kind: u8, card: u8, n: u8) -> u32
     ensures { λ c. ⌜ c ≡ packed number kind card n ⌝ }
@@ -56,4 +58,14 @@ pub(crate) fn of_totals(t: Totals) -> u64
     let c = t.card as u64 + 2048 * c;
     let c = t.chips as u64 + 2048 * c;
     256 * (t.clean as u64 + 2048 * c)
+}
+
+// A register's byte above the number.
+pub(crate) fn of_value(x: Value) -> u32
+    ensures { λ c. ⌜ c ≡ value-code x ⌝ }
+{
+    match x {
+        Value::Byte(b) => 256 * (b as u32),
+        Value::Refused(n) => n as u32,
+    }
 }

@@ -1,9 +1,11 @@
 // The library for C and Rust: numbers and lent bytes alone. Each export is one call of the library, and its answer as a code.
 //
 // Marks come in four bytes. Bytes of another length are a record outside its ranges, and so is a chip or a card of any other number.
+// Registers come in twelve, as an array, which has no other length.
 mod encode;
 
 ghost use Rattle.capi.specs.Exports.{StoreCoded, ReadCoded, ClearCoded, PutCoded, GetCoded, PatrolCoded, ReportCoded, MarkCoded};
+ghost use Rattle.capi.specs.Exports.{WriteCoded, RegisterCoded, InterruptCoded};
 ghost use Rattle.marks.specs.declared.MarkCall.the-variants.{PlaceChip, LiftChip, PlaceCard, LiftCard};
 use marks::MarkCall;
 
@@ -99,4 +101,46 @@ pub extern "C" fn livomashen_lift_card(m: &mut [u8]) -> u32
     ensures { λ c. ⌜ MarkCoded (now (m .entry)) LiftCard c (now (m .exit)) ⌝ }
 {
     mark(m, MarkCall::LiftCard)
+}
+
+// Writes a register, by its address, in twelve lent bytes, which a refused write leaves alone.
+#[no_mangle]
+pub extern "C" fn livomashen_write_register(
+    r: &mut [u8; 12],
+    a: u32,
+    v: u8,
+    bank: &mut [u8],
+    out: &mut [u8],
+) -> u32
+    ensures { λ c.
+        ⌜ WriteCoded (now (r .entry)) a v (now (bank .entry)) (now (out .entry)) c (now (r .exit)) (now (bank .exit)) (now (out .exit)) ⌝ }
+{
+    let w = registers::write(registers::from_bytes(r), a, v, bank, out);
+    let answer = w.answer;
+    let after = w.registers;
+    let c = encode::of_outcome(answer);
+    if c != 0 {
+        return c;
+    }
+    *r = registers::to_bytes(after);
+    c
+}
+
+// Reads a register, by its address.
+#[no_mangle]
+pub extern "C" fn livomashen_read_register(r: &[u8; 12], a: u32) -> u32
+    ensures { λ c. ⌜ RegisterCoded (now (r .entry)) a c (now (r .exit)) ⌝ }
+{
+    encode::of_value(registers::read(registers::from_bytes(r), a))
+}
+
+// 1 while the interrupt is raised, else 0.
+#[no_mangle]
+pub extern "C" fn livomashen_interrupt(r: &[u8; 12]) -> u32
+    ensures { λ c. ⌜ InterruptCoded (now (r .entry)) c (now (r .exit)) ⌝ }
+{
+    if registers::interrupt(registers::from_bytes(r)) {
+        return 1;
+    }
+    0
 }

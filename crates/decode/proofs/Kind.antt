@@ -14,7 +14,7 @@ use lib.Dec.{eqb}
 use lib.ListN.{length, getD}
 use borrow.Author.Tests.{eqb-true, ne-eqb, not-true, not-false}
 use Rattle.base.specs.Base.{if, In, is-in, tally}
-use Rattle.base.proofs.Tests.{same}
+use Rattle.base.proofs.Tests.{same, and-true}
 use Rattle.base.proofs.Lists.{in-is-in, is-in-in}
 use Rattle.base.proofs.Tally.{clash, tally-none, tally-one, tally-some, tally-two}
 use Rattle.field.specs.Field.{_⊕_}
@@ -31,10 +31,6 @@ use Rattle.reading.specs.declared.Kind.the-variants.{Chips, OneCard}
 use Rattle.reading.proofs.Searches.{further-one}
 use Rattle.decode.specs.Equations.{Within}
 use Rattle.decode.specs.Search.{stray, strays, chips-kind, card-kind}
-
-and-true : (s t : Bool) → s && t ≡ true → (s ≡ true) × (t ≡ true)
-and-true true t e = (refl, e)
-and-true false t e = absurd (clash false e refl)
 
 module _ (d : Change) (j : ℕ) (hj : j < 5) (qs : List ℕ) (w : Within j qs d) (o : Beside j qs) where
   pub formed : WellFormed d

@@ -18,13 +18,13 @@ use Rattle.base.proofs.Few.{few-one, few-two, few-more}
 use Rattle.marks.specs.Marks.{LawfulMarks, CardInRange, chips-of, marked-chips, places-in-range}
 use Rattle.marks.specs.Mark.{of-chips, remove}
 use Rattle.marks.specs.declared.CardMark.{CardMark}
-use Rattle.marks.proofs.Tests.{both}
+use Rattle.base.proofs.Tests.{and-true}
 
 -- ---- the chips of places within their ranges
 pub places-few : (n a b : ℕ) → places-in-range n a b ≡ true → (n ≡ 2 → a ≢ b) → Few 2 (chips-of n a b)
 places-few zero a b e d = tt
-places-few (suc zero) a b e d = few-one a (ltb-true a 45 (both _ _ e .0))
-places-few (suc (suc zero)) a b e d = let h = both _ _ e in few-two a b (ltb-true a 45 (h .0)) (ltb-true b 45 (h .1)) (d refl)
+places-few (suc zero) a b e d = few-one a (ltb-true a 45 (and-true _ _ e .0))
+places-few (suc (suc zero)) a b e d = let h = and-true _ _ e in few-two a b (ltb-true a 45 (h .0)) (ltb-true b 45 (h .1)) (d refl)
 places-few (suc (suc (suc n))) a b e d = absurd (false≢true e)
 
 pub places-count : (n a b : ℕ) → n ≤ 2 → length (chips-of n a b) ≡ n
@@ -35,8 +35,8 @@ places-count (suc (suc (suc n))) a b h = absurd (omega arith)
 
 pub places-back : (card : CardMark) (n a b : ℕ) → places-in-range n a b ≡ true
     → of-chips card (chips-of n a b) ≡ record { card = card; count = n; first = a; second = b }
-places-back card zero a b e = let h = both _ _ e in simp (eqb-true a 255 (h .0), eqb-true b 255 (h .1))
-places-back card (suc zero) a b e = simp (eqb-true b 255 (both (ltb a 45) (eqb b 255) e .1))
+places-back card zero a b e = let h = and-true _ _ e in simp (eqb-true a 255 (h .0), eqb-true b 255 (h .1))
+places-back card (suc zero) a b e = simp (eqb-true b 255 (and-true (ltb a 45) (eqb b 255) e .1))
 places-back card (suc (suc zero)) a b e = refl
 places-back card (suc (suc (suc n))) a b e = absurd (false≢true e)
 

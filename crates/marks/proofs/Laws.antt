@@ -28,6 +28,7 @@ use borrow.Author.Tests.{eq-eqb, ne-eqb, lt-ltb, ltb-true, eqb-false, not-false}
 use Rattle.base.specs.Base.{if, In, is-in, Few}
 use Rattle.base.proofs.Few.{few-length}
 use Rattle.base.proofs.Lists.{in-is-in, is-in-in}
+use Rattle.base.proofs.Tests.{and-true, or-false}
 use Rattle.answer.specs.Answer.{Answer, done, refused, By}
 use Rattle.answer.specs.Cause.{Cause, cause, lowest}
 use Rattle.answer.proofs.Causes.{none-holds, first-holds, Lowest, lowest-is, by-accepted}
@@ -39,7 +40,7 @@ use Rattle.marks.specs.declared.CardMark.the-variants.{None, Card}
 use Rattle.marks.specs.declared.Marks.{Marks}
 use Rattle.marks.specs.declared.MarkCall.{MarkCall}
 use Rattle.marks.specs.declared.MarkCall.the-variants.{PlaceChip, LiftChip, PlaceCard, LiftCard}
-use Rattle.marks.proofs.Tests.{both, neither, places-test, lawful-range, lawful-two, tests-lawful}
+use Rattle.marks.proofs.Tests.{places-test, lawful-range, lawful-two, tests-lawful}
 use Rattle.marks.proofs.Few.{places-few, places-count, places-back, few-lawful, kept, added, added-in, removed, removed-out}
 
 -- ---- a record is lawful exactly when no cause is given
@@ -120,8 +121,8 @@ can m c e =
     let seven = none-holds 6 _ (cause 8 (too-many m c) ∷ cause 9 (absent m c) ∷ []) (six .1) in
     let eight = none-holds 7 _ (cause 9 (absent m c) ∷ []) (seven .1) in
     let nine = none-holds 8 _ [] (eight .1) in
-    let within = both _ _ (not-false _ (six .0)) in
-    let single = neither _ _ (seven .0) in
+    let within = and-true _ _ (not-false _ (six .0)) in
+    let single = or-false _ _ (seven .0) in
     record { lawful = tests-lawful m (within .0) (single .0); asked = within .1; new = single .1; room = eight .0; there = nine .0 }
 
 -- of a lawful record and a call within its range

@@ -1,29 +1,20 @@
 -- Lawful marks as facts and as tests.
 --
---   both, neither                   a joined test, taken apart
 --   card-fact, card-test            the card mark within its range
 --   places-fact, places-test        the chip places within their ranges, by the count
 --   lawful-range, lawful-two        a lawful record passes both tests; tests-lawful: one that does is lawful
 use Prim.Native.Nat.{ℕ, zero, suc, _≤_, _<_}
 use mathlib.Core.Path.{_≡_, refl, sym, _∙_}
 use mathlib.Core.Logic.{_⊎_, inl, inr, ⊎-elim, by-cases}
-use mathlib.Core.Bool.{Bool, true, false, _&&_, _||_, false≢true, true≢false}
+use mathlib.Core.Bool.{true, false, false≢true, true≢false}
 use native.Mathlib.Decide.{ℕ-discrete}
 use native.Mathlib.Omega.{arith}
 use borrow.Author.Tests.{eq-eqb, ne-eqb, lt-ltb, ltb-true, eqb-true}
+use Rattle.base.proofs.Tests.{and-true}
 use Rattle.marks.specs.Marks.{LawfulMarks, CardInRange, card-in-range, places-in-range, in-range, two-equal}
 use Rattle.marks.specs.declared.CardMark.{CardMark}
 use Rattle.marks.specs.declared.CardMark.the-variants.{None, Card}
 use Rattle.marks.specs.declared.Marks.{Marks}
-
--- ---- a joined test, taken apart
-pub both : (s t : Bool) → (s && t) ≡ true → (s ≡ true) × (t ≡ true)
-both true t e = (refl, e)
-both false t e = absurd (false≢true e)
-
-pub neither : (s t : Bool) → (s || t) ≡ false → (s ≡ false) × (t ≡ false)
-neither true t e = absurd (true≢false e)
-neither false t e = (refl, e)
 
 -- ---- the ranges
 card-fact : (card : CardMark) → card-in-range card ≡ true → CardInRange card
@@ -41,13 +32,13 @@ record PlacesInRange (n a b : ℕ) : Type 0 where
 
 places-fact : (n a b : ℕ) → places-in-range n a b ≡ true → PlacesInRange n a b
 places-fact zero a b e =
-    let h = both _ _ e in
+    let h = and-true _ _ e in
     record { count = omega arith; first = inr (refl, eqb-true a 255 (h .0)); second = inr (omega arith, eqb-true b 255 (h .1)) }
 places-fact (suc zero) a b e =
-    let h = both _ _ e in
+    let h = and-true _ _ e in
     record { count = omega arith; first = inl (omega arith, ltb-true a 45 (h .0)); second = inr (omega arith, eqb-true b 255 (h .1)) }
 places-fact (suc (suc zero)) a b e =
-    let h = both _ _ e in
+    let h = and-true _ _ e in
     record { count = omega arith; first = inl (omega arith, ltb-true a 45 (h .0)); second = inl (refl, ltb-true b 45 (h .1)) }
 places-fact (suc (suc (suc n))) a b e = absurd (false≢true e)
 
@@ -88,7 +79,7 @@ module _ {m : Marks} (l : LawfulMarks m) where
 pub tests-lawful : (m : Marks) → in-range m ≡ true → two-equal m ≡ false → LawfulMarks m
 unfolding in-range two-equal
 tests-lawful m r t =
-    let h = both _ _ r in
+    let h = and-true _ _ r in
     let p = places-fact (m .count) (m .first) (m .second) (h .1) in
     record {
       card = card-fact (m .card) (h .0);

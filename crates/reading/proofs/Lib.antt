@@ -2,3 +2,5 @@ pub mod Searches
 pub mod Facts
 pub mod Agree
 pub mod Exists
+pub mod Limits
+pub mod Gives

@@ -6,7 +6,7 @@ use crate::livomashen::{self, Corrected, BLOCK, FRESH, RECORD};
 use crate::random::Random;
 use crate::{number, plain};
 
-fn from_environment(name: &str, otherwise: u64) -> u64 {
+pub fn from_environment(name: &str, otherwise: u64) -> u64 {
     std::env::var(name)
         .ok()
         .and_then(|text| text.parse().ok())
@@ -25,7 +25,7 @@ fn as_ours(answer: plain::Answer) -> Result<Corrected, u8> {
     }
 }
 
-fn any_marks(rng: &mut Random) -> [u8; 4] {
+pub fn any_marks(rng: &mut Random) -> [u8; 4] {
     let mut marks = FRESH;
     if rng.below(2) == 0 {
         marks[0] = rng.below(5) as u8;
@@ -48,7 +48,7 @@ fn hit_card(rng: &mut Random, block: &mut [u8], card: usize) {
 }
 
 /// Some damage, allowed by the marks or not.
-fn damage(rng: &mut Random, block: &mut [u8], marks: &[u8; 4]) {
+pub fn damage(rng: &mut Random, block: &mut [u8], marks: &[u8; 4]) {
     let marked_card = if marks[0] < 5 {
         marks[0] as usize
     } else {

@@ -5,7 +5,8 @@ use native.Mathlib.Omega.{arith}
 use borrow.Author.Needs.{needs}
 use Rattle.bank.specs.Calls.{report-answer}
 use Rattle.bank.specs.declared.Reported.{Reported}
-use Rattle.capi.proofs.Gives.{Reports, report-gives, at-most-1024}
+use Rattle.answer.proofs.Gives.{Reports}
+use Rattle.bank.proofs.Gives.{report-gives, at-most-1024}
 use Rattle.capi.proofs.livomashen_report.Statement.{statement}
 use Rattle.capi.proofs.livomashen_report.Tie as tie
 

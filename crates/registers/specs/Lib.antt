@@ -1,0 +1,3 @@
+pub mod Registers
+pub mod Write
+pub mod Plain

@@ -1,0 +1,301 @@
+//! Order 1's registers: addresses, commands and bits, and each command against
+//! the call that it stands for.
+
+use crate::damage::{any_marks, damage, from_environment};
+use crate::livomashen::{self, at, command, pending, Corrected, Refusal, Registers, Said};
+use crate::livomashen::{BLOCK, FRESH, RECORD, REGISTERS};
+use crate::random::Random;
+use crate::{number, plain};
+
+/// Lawful states, one with every bit set, and one whose marks are 6.
+const STATES: [[u8; REGISTERS]; 4] = [
+    [0, 0, 0, 0, 0, 0, 0, 0, 255, 0, 255, 255],
+    [255; REGISTERS],
+    [2, 1, 0, 4, 2, 27, 1, 2, 4, 1, 44, 255],
+    [6, 1, 0, 0, 25, 0, 3, 0, 5, 0, 255, 255],
+];
+
+/// A write on slices that it must not change; gives its number.
+fn write(registers: &mut Registers, address: u32, value: u8) -> Result<(), u8> {
+    let (mut bank, mut out) = ([7; 2 * BLOCK], [9; BLOCK]);
+    let said = number(registers.write(address, value, &mut bank, &mut out));
+    assert_eq!((bank, out), ([7; 2 * BLOCK], [9; BLOCK]), "lent bytes");
+    said
+}
+
+#[test]
+fn at_the_start() {
+    let registers = Registers::fresh();
+    assert_eq!(*registers.bytes(), STATES[0]);
+    assert_eq!(registers.marks(), FRESH);
+    assert!(!registers.interrupt());
+    assert_eq!(
+        registers.last_answer(),
+        Some(Ok(Said::Corrected(Corrected::Clean)))
+    );
+    assert_eq!(registers, Registers::from_bytes(STATES[0]));
+}
+
+#[test]
+fn every_address() {
+    let wide = [256, 257, 0x1_0000, 0x1_0007, 0x8000_0000, u32::MAX];
+    for state in STATES {
+        for address in (0..=300).chain(wide) {
+            let mut registers = Registers::from_bytes(state);
+            let wanted = state.get(address as usize).copied().ok_or(12);
+            assert_eq!(number(registers.read(address)), wanted, "read {address}");
+            let wanted = match address {
+                12.. => Err(12),
+                4 | 5 | 8.. => Err(13),
+                0 => Err(14),
+                _ => Ok(()),
+            };
+            assert_eq!(write(&mut registers, address, 9), wanted, "write {address}");
+            if wanted.is_err() {
+                assert_eq!(*registers.bytes(), state, "write {address}");
+            }
+        }
+    }
+}
+
+#[test]
+fn every_command() {
+    for state in STATES {
+        for value in 0..=255 {
+            let mut registers = Registers::from_bytes(state);
+            let known = (1..=6).contains(&value);
+            let mut bank = [0; 2 * BLOCK];
+            let said = registers.write(at::COMMAND, value, &mut bank, &mut [0; BLOCK]);
+            let wanted = if known { Ok(()) } else { Err(14) };
+            assert_eq!(number(said), wanted, "command {value}");
+            if known {
+                assert_eq!(registers.bytes()[0], value);
+            } else {
+                assert_eq!(*registers.bytes(), state, "command {value}");
+            }
+        }
+    }
+}
+
+/// Bytes 1, 2, 3 and 6 take any value, and ones clear the bits of byte 7; no
+/// slice is looked at.
+#[test]
+fn every_value_of_a_plain_register() {
+    for state in STATES {
+        for value in 0..=255 {
+            for address in [at::BLOCK_LOW, at::BLOCK_HIGH, at::ASKED, at::ENABLE] {
+                let mut registers = Registers::from_bytes(state);
+                assert_eq!(registers.write(address, value, &mut [], &mut []), Ok(()));
+                let mut wanted = state;
+                wanted[address as usize] = value;
+                assert_eq!(*registers.bytes(), wanted, "write {address}");
+            }
+            for before in 0..=255 {
+                let mut wanted = state;
+                wanted[7] = before;
+                let mut registers = Registers::from_bytes(wanted);
+                assert_eq!(write(&mut registers, at::PENDING, value), Ok(()));
+                wanted[7] = before & !value;
+                assert_eq!(*registers.bytes(), wanted, "{value} clears of {before}");
+            }
+        }
+    }
+}
+
+#[test]
+fn the_interrupt() {
+    for enabled in 0..=255 {
+        for pending in 0..=255 {
+            let bytes = [9, 9, 9, 9, 9, 9, enabled, pending, 9, 9, 9, 9];
+            let shared = (0..8).any(|bit| enabled >> bit & 1 == 1 && pending >> bit & 1 == 1);
+            assert_eq!(Registers::from_bytes(bytes).interrupt(), shared);
+        }
+    }
+}
+
+/// Bytes 4 and 5 as commands leave them, then every other byte 4.
+#[test]
+fn every_last_answer() {
+    let said = |answer, detail| {
+        let bytes = [0, 0, 0, 0, answer, detail, 0, 0, 255, 0, 255, 255];
+        Registers::from_bytes(bytes).last_answer()
+    };
+    let corrected = |kind| Some(Ok(Said::Corrected(kind)));
+    assert_eq!(said(0, 0), corrected(Corrected::Clean));
+    assert_eq!(said(1, 2), corrected(Corrected::Chips { n: 2 }));
+    assert_eq!(said(2, 11), corrected(Corrected::Card { card: 0, n: 11 }));
+    assert_eq!(said(2, 75), corrected(Corrected::Card { card: 4, n: 11 }));
+    assert_eq!(said(3, 0), Some(Ok(Said::Marked)));
+    assert_eq!(said(27, 64), Some(Err(Refusal::Several { card: 4 })));
+    for answer in 4..=255 {
+        let told = said(answer, 0).map(|said| number(said).map_err(|number| 16 + number));
+        let wanted = (17..=27).contains(&answer).then_some(Err(answer));
+        assert_eq!(told, wanted, "byte 4 is {answer}");
+    }
+}
+
+#[test]
+fn lengths_behind_a_command() {
+    for bank_len in [0, 44, 45, 46, 90, 46_035, 46_080, 46_125] {
+        for out_len in [0, 44, 45, 46] {
+            let mut bank = vec![0; bank_len];
+            let mut out = vec![0xA5; out_len];
+            let mut run = |command, k: usize| {
+                let mut bytes = STATES[0];
+                bytes[1..3].copy_from_slice(&(k as u16).to_le_bytes());
+                let mut registers = Registers::from_bytes(bytes);
+                let written = registers.write(at::COMMAND, command, &mut bank, &mut out);
+                assert_eq!(written, Ok(()));
+                number(registers.last_answer().expect("an answer"))
+            };
+            let lawful = bank_len % 45 == 0 && (45..=46_080).contains(&bank_len);
+            for k in [0, 1, 1022, 1023, 1024, 65_535] {
+                let patrolled = if !lawful {
+                    Err(4)
+                } else if k >= bank_len / 45 {
+                    Err(5)
+                } else {
+                    Ok(Said::Corrected(Corrected::Clean))
+                };
+                let got = if out_len == 45 { patrolled } else { Err(2) };
+                let lengths = (bank_len, out_len, k);
+                assert_eq!(run(command::GET, k), got, "{lengths:?}");
+                assert_eq!(run(command::PATROL, k), patrolled, "{lengths:?}");
+                assert_eq!(run(command::MARK_CHIP, k), Ok(Said::Marked), "{lengths:?}");
+                assert_eq!(run(command::LIFT_CARD, k), Err(9), "{lengths:?}");
+            }
+        }
+    }
+}
+
+/// A mark is placed by one and lifted by the other: the record is the same.
+#[test]
+fn commands_and_calls_on_one_mark_record() {
+    let mut registers = Registers::fresh();
+    assert_eq!(livomashen::place_chip(registers.marks_mut(), 44), Ok(()));
+    assert_eq!(write(&mut registers, at::ASKED, 3), Ok(()));
+    assert_eq!(
+        write(&mut registers, at::COMMAND, command::MARK_CHIP),
+        Ok(())
+    );
+    assert_eq!(
+        write(&mut registers, at::COMMAND, command::MARK_CARD),
+        Ok(())
+    );
+    assert_eq!(registers.marks(), [3, 2, 44, 3]);
+    assert_eq!(registers.last_answer(), Some(Ok(Said::Marked)));
+    assert_eq!(livomashen::lift_card(registers.marks_mut()), Ok(()));
+    assert_eq!(
+        write(&mut registers, at::COMMAND, command::LIFT_CARD),
+        Ok(())
+    );
+    assert_eq!(registers.last_answer(), Some(Err(Refusal::MarkAbsent)));
+    assert_eq!(registers.bytes()[7], pending::DONE | pending::REFUSED);
+    assert_eq!(registers.marks(), [255, 2, 44, 3]);
+}
+
+// ------------------------------------------- each command against its own call
+
+/// Whether a change in this card and in marked chips reaches a lawful block:
+/// what the answer 11 says of its card.
+fn reaches(block: &[u8], marks: &[u8], card: u8) -> bool {
+    let mut out = [0; BLOCK];
+    let under = [card, marks[1], marks[2], marks[3]];
+    let corrected = !matches!(
+        plain::read(block, &under, &mut out),
+        plain::Answer::None | plain::Answer::Several { .. } | plain::Answer::Refused(_)
+    );
+    corrected
+        && (0..BLOCK).all(|p| {
+            out[p] == block[p] || p / 9 == card as usize || marks[2..].contains(&(p as u8))
+        })
+}
+
+/// The registers after a command, by the call that it stands for.
+fn by_call(bytes: &[u8; REGISTERS], asked: u8, bank: &mut [u8], out: &mut [u8]) -> [u8; REGISTERS] {
+    let (mut after, mut marks) = (*bytes, [0; 4]);
+    marks.copy_from_slice(&bytes[8..]);
+    let k = bytes[1] as usize + 256 * bytes[2] as usize;
+    let chip_or_card = bytes[3] as u32;
+    let said = match asked {
+        command::GET => livomashen::get(bank, k, &marks, out).map(Said::Corrected),
+        command::PATROL => livomashen::patrol(bank, k, &marks).map(Said::Corrected),
+        command::MARK_CHIP => {
+            livomashen::place_chip(&mut marks, chip_or_card).map(|()| Said::Marked)
+        }
+        command::MARK_CARD => {
+            livomashen::place_card(&mut marks, chip_or_card).map(|()| Said::Marked)
+        }
+        command::LIFT_CHIP => {
+            livomashen::lift_chip(&mut marks, chip_or_card).map(|()| Said::Marked)
+        }
+        _ => livomashen::lift_card(&mut marks).map(|()| Said::Marked),
+    };
+    after[0] = asked;
+    (after[4], after[5]) = match said {
+        Ok(Said::Corrected(Corrected::Clean)) => (0, 0),
+        Ok(Said::Corrected(Corrected::Chips { n })) => (1, n),
+        Ok(Said::Corrected(Corrected::Card { card, n })) => (2, n + 16 * card),
+        Ok(Said::Marked) => (3, 0),
+        Err(Refusal::Several { card }) => (27, 16 * card),
+        Err(refusal) => (16 + refusal.number(), 0),
+    };
+    after[7] |= if said.is_ok() { 1 } else { 2 };
+    after[8..].copy_from_slice(&marks);
+    after
+}
+
+/// Registers whose block is most often there, and whose chip or card is marked
+/// now and then.
+fn any_registers(rng: &mut Random, marks: &[u8; 4]) -> [u8; REGISTERS] {
+    let mut bytes = [0; REGISTERS];
+    bytes.fill_with(|| rng.byte());
+    bytes[1] = rng.below(4) as u8;
+    bytes[2] = if rng.below(20) == 0 { 1 } else { 0 };
+    bytes[3] = match rng.below(4) {
+        0 => marks[2],
+        1 => rng.below(5) as u8,
+        2 => rng.below(45) as u8,
+        _ => rng.byte(),
+    };
+    bytes[8..].copy_from_slice(marks);
+    bytes
+}
+
+#[test]
+fn random_commands_do_what_their_calls_do() {
+    let seed = from_environment("SEED", 1);
+    let mut rng = Random(seed ^ 0x7E61);
+    let mut seen = [0; 28];
+    for case in 0..from_environment("CASES", 200_000) {
+        let marks = any_marks(&mut rng);
+        let mut bank = [0; 3 * BLOCK];
+        for block in bank.chunks_exact_mut(BLOCK) {
+            assert_eq!(livomashen::store(&rng.bytes(RECORD), block), Ok(()));
+            damage(&mut rng, block, &marks);
+        }
+        let (mut out, before) = ([0xA5; BLOCK], any_registers(&mut rng, &marks));
+        let (mut other_bank, mut other_out) = (bank, out);
+        let asked = 1 + rng.below(6) as u8;
+        let mut wanted = by_call(&before, asked, &mut other_bank, &mut other_out);
+        let mut registers = Registers::from_bytes(before);
+        let said = registers.write(at::COMMAND, asked, &mut bank, &mut out);
+        assert_eq!(said, Ok(()), "seed {seed}, case {case}");
+        // With 11 the command may name another card than the call, if it fits.
+        if let Some(Err(Refusal::Several { card })) = registers.last_answer() {
+            let block = &bank[BLOCK * before[1] as usize..][..BLOCK];
+            assert!(reaches(block, &marks, card), "seed {seed}, case {case}");
+            wanted[5] = 16 * card;
+        }
+        assert_eq!(*registers.bytes(), wanted, "seed {seed}, case {case}");
+        assert_eq!(
+            (bank, out),
+            (other_bank, other_out),
+            "seed {seed}, case {case}"
+        );
+        seen[wanted[4] as usize] += 1;
+    }
+    for met in [0, 1, 2, 3, 21, 22, 23, 24, 25, 26, 27] {
+        assert!(seen[met] > 0, "every answer is met: {seen:?}");
+    }
+}

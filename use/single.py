@@ -1,0 +1,221 @@
+"""Single calls on bytes of their own, the library's against second/.
+
+Every length of every slice, every number of a chip or card, every address and
+value of a register, and the interrupt's bits.
+"""
+
+import damage
+import library
+import reference as ref
+import registers
+from agree import Difference, expect, expect_answer, take_card_over
+from reference import BLOCK, RECORD
+
+SHORT = range(100)                        # lengths of a slice
+LARGEST = BLOCK * ref.MOST_BLOCKS         # 46,080
+AROUND_THE_LARGEST = range(LARGEST - 3, LARGEST + 48)
+WIDE = (2 ** 16 + 4, 2 ** 31, library.WIDEST)
+ADDRESSES = (*range(301), *WIDE)
+VALUES = (0, 1, 6, 7, 255)                # for an address beyond the registers
+
+
+# ------------------------------------------- calls on lent bytes of any kind
+
+def on_any_marks(call):
+    """A mark call for a marks slice of any length; 6 if it isn't 4."""
+    return lambda marks, *rest: (ref.Answer(6) if len(marks) != 4
+                                 else call(marks, *rest))
+
+
+def lowest_with_marks(marks, causes, call):
+    """01's order where the marks slice may be of any length."""
+    if len(marks) == 4:
+        return call()
+    return ref.Answer(ref.lowest(*causes, 6))
+
+
+def ref_read(block, marks, output):
+    causes = (ref.length_cause(block, BLOCK, 1),
+              ref.length_cause(output, BLOCK, 2))
+    return lowest_with_marks(
+        marks, causes, lambda: ref.read_into(output, block, marks))
+
+
+def ref_get(bank, k, marks, output):
+    causes = (ref.length_cause(output, BLOCK, 2), ref.bank_cause(bank),
+              ref.number_cause(bank, k))
+    return lowest_with_marks(
+        marks, causes, lambda: ref.get(bank, k, output, marks))
+
+
+def ref_patrol(bank, k, marks):
+    causes = (ref.bank_cause(bank), ref.number_cause(bank, k))
+    return lowest_with_marks(
+        marks, causes, lambda: ref.patrol(bank, k, marks))
+
+
+def ref_report(bank, marks):
+    if len(marks) == 4:
+        return ref.report(bank, marks)
+    return ref.Answer(ref.lowest(ref.bank_cause(bank), 6)), None
+
+
+REFERENCE = {
+    "store": lambda record, output: ref.store_into(output, record),
+    "read": ref_read,
+    "clear": ref.clear,
+    "put": ref.put,
+    "get": ref_get,
+    "patrol": ref_patrol,
+    "report": ref_report,
+    "place_chip": on_any_marks(ref.place_chip),
+    "lift_chip": on_any_marks(ref.lift_chip),
+    "place_card": on_any_marks(ref.place_card),
+    "lift_card": on_any_marks(ref.lift_card),
+    "write_register": registers.write,
+    "read_register": registers.read,
+    "interrupt": lambda held: int(registers.interrupt(held)),
+}
+
+
+def lent(argument):
+    return bytearray(argument) if isinstance(argument, bytes) else argument
+
+
+def compare_call(lib, name, *arguments):
+    """One call on bytes of its own: the answer, and every byte after it."""
+    ours = [lent(argument) for argument in arguments]
+    theirs = [lent(argument) for argument in arguments]
+    said = lib.call(name, *ours)
+    wanted = REFERENCE[name](*theirs)
+    if name == "write_register":
+        wanted, answer = wanted
+        take_card_over(ours[0], theirs[0], answer)
+    try:
+        expect_answer("answer", said, wanted)
+        for mine, yours in zip(ours, theirs):
+            expect("bytes after it", mine, yours)
+    except Difference as difference:
+        shown = [argument.hex() if isinstance(argument, bytes) else argument
+                 for argument in arguments]
+        raise Difference(f"{name} {shown}: {difference}") from None
+
+
+# ------------------------------------------------------- lengths and numbers
+
+def every_length(lib, name, arguments, at, lengths):
+    """The call with each length of one slice, the others as they are."""
+    part = arguments[at] * (lengths[-1] // len(arguments[at]) + 1)
+    for length in lengths:
+        compare_call(lib, name, *arguments[:at], part[:length],
+                     *arguments[at + 1:])
+    return len(lengths)
+
+
+def lengths_of_calls(lib, rng):
+    """Every length of each slice of 01's calls, the others being right."""
+    block = damage.damaged_block(rng, ref.FRESH, "one_bad_chip")
+    record, marks = rng.randbytes(RECORD), ref.FRESH
+    out, bank = rng.randbytes(BLOCK), block + bytes(BLOCK)
+    made = 0
+    for name, arguments in (("store", (record, out)),
+                            ("read", (block, marks, out)),
+                            ("clear", (bank,)), ("put", (bank, 0, record)),
+                            ("get", (bank, 0, marks, out)),
+                            ("patrol", (bank, 0, marks)),
+                            ("report", (bank, marks)),
+                            ("place_chip", (marks, 0)),
+                            ("lift_chip", (marks, 0)),
+                            ("place_card", (marks, 0)),
+                            ("lift_card", (marks,))):
+        for at, argument in enumerate(arguments):
+            if isinstance(argument, bytes):
+                made += every_length(lib, name, arguments, at, SHORT)
+            if argument is bank:
+                made += every_length(lib, name, arguments, at,
+                                     AROUND_THE_LARGEST)
+    return made
+
+
+def mark_numbers(lib):
+    """Chips and cards 0 to 600 and the widest, with none and with one marked."""
+    made = 0
+    for name in ("place_chip", "lift_chip", "place_card"):
+        for marks in (ref.FRESH, bytes((4, 1, 44, 255))):
+            for asked in (*range(601), *WIDE):
+                compare_call(lib, name, marks, asked)
+                made += 1
+    return made
+
+
+# ---------------------------------------------------------------- registers
+
+def some_registers(rng):
+    """At the start, with every bit set before the marks, and any two."""
+    return (registers.START, b"\xFF" * 8 + ref.FRESH,
+            damage.any_registers(rng), rng.randbytes(registers.SIZE))
+
+
+def register_addresses(lib, rng):
+    """Each address, read and written; every value where there is a register."""
+    bank, out = damage.damaged_bank(rng, ref.FRESH, 3), rng.randbytes(BLOCK)
+    made = 0
+    for held in some_registers(rng):
+        for address in ADDRESSES:
+            compare_call(lib, "read_register", held, address)
+            values = range(256) if address < registers.SIZE else VALUES
+            for value in values:
+                compare_call(lib, "write_register", held, address, value, bank, out)
+            made += 1 + len(values)
+    return made
+
+
+def register_lengths(lib, rng):
+    """Every length of bank and output behind each command and a plain write."""
+    block = damage.damaged_block(rng, ref.FRESH, "one_bad_chip")
+    bank, out = block + bytes(BLOCK), rng.randbytes(BLOCK)
+    marked = bytes(8) + bytes((0, 1, 0, 255))
+    made = 0
+    for address, value, held in ((0, registers.GET, registers.START),
+                                 (0, registers.PATROL, registers.START),
+                                 (0, registers.MARK_CHIP, registers.START),
+                                 (0, registers.MARK_CARD, registers.START),
+                                 (0, registers.LIFT_CHIP, marked),
+                                 (0, registers.LIFT_CARD, marked),
+                                 (registers.LOW, 9, registers.START)):
+        arguments = held, address, value, bank, out
+        made += every_length(lib, "write_register", arguments, 3, SHORT)
+        made += every_length(lib, "write_register", arguments, 3,
+                             AROUND_THE_LARGEST)
+        made += every_length(lib, "write_register", arguments, 4, SHORT)
+    return made
+
+
+def register_block_numbers(lib, rng):
+    """Blocks of the largest bank, and beyond it, by both bytes."""
+    bank = damage.damaged_bank(rng, ref.FRESH, 8) * (ref.MOST_BLOCKS // 8)
+    numbers = [(low, high) for low in (0, 1, 2, 4, 255) for high in (0, 1, 3, 4, 255)]
+    for low, high in numbers:
+        held = bytes((0, low, high, 0, 0, 0, 0, 0)) + ref.FRESH
+        for command in (registers.GET, registers.PATROL):
+            compare_call(lib, "write_register", held, 0, command, bank,
+                         rng.randbytes(BLOCK))
+    return 2 * len(numbers)
+
+
+def interrupt_bits(lib, rng):
+    """Each enable bit with each pending bit, alone and among all others."""
+    single = [1 << bit for bit in range(8)]
+    values = [0, 255, *single, *(255 - one for one in single)]
+    for enabled in values:
+        for pending in values:
+            held = rng.randbytes(6) + bytes((enabled, pending)) + rng.randbytes(4)
+            compare_call(lib, "interrupt", held)
+    return len(values) ** 2
+
+
+def compare_all(lib, rng):
+    """All of the above; gives how many calls were made."""
+    return (lengths_of_calls(lib, rng) + mark_numbers(lib)
+            + register_addresses(lib, rng) + register_lengths(lib, rng)
+            + register_block_numbers(lib, rng) + interrupt_bits(lib, rng))
