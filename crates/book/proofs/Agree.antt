@@ -25,7 +25,8 @@ use Rattle.book.specs.Book.{put, Entry, call, write, hit, says, State, S
 use Rattle.book.specs.Book.{but-card-said, but-card-seen, but-cards}
 use Rattle.book.specs.Book.{Book, fresh-book, state-of, registers-of, marks-of, with-front}
 use Rattle.book.specs.Book.{CommandSays, WriteSays, Step, Booked, OneBook}
-use Rattle.book.proofs.Alike.{Alike, Agrees, front-of, blank, same-book, alike-card, register-same, command-same, cause-same, raised-same, command-alike, call-alike, command-eleven}
+use Rattle.book.proofs.Alike.{Alike, Agrees, front-of, blank, same-book, alike-card, register-same, command-same, cause-same, raised-same}
+use Rattle.book.proofs.Alike.{command-alike, call-alike, command-eleven}
 
 -- ---- one register write, of alike books
 -- a register other than 4 and 5
@@ -116,7 +117,8 @@ step-alike b d h (hit i y) s s′ x x′ w v =
       marks = h .marks;
       front = h .front;
     }) in (
-      same-seen s s′ x x′ (ap but-card-said (w .says .0 ∙ sym (v .says .0))) (w .says .1 ∙ sym (v .says .1)) (w .after) (v .after) (w .interrupt) (v .interrupt) g,
+      same-seen s s′ x x′ (ap but-card-said (w .says .0 ∙ sym (v .says .0))) (w .says .1 ∙ sym (v .says .1)) (w .after) (v .after) (w .interrupt)
+          (v .interrupt) g,
       g,
     )
 

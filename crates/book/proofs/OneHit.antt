@@ -105,7 +105,8 @@ module _ (n k : ℕ) (hi : n ≤ 1024) (hk : k < n) (rec out : List ℕ) (lr : l
       let fine = subst (λ (y : Book). (get-cause (45 * n) k (marks-of y) (length out) ≡ 0) × DamageAllowed y k × DamageOfChipKind y k) (sym (g .1))
       (gets, inl d, d) in
       given b₂ (call (get k out)) u _ last (fine .2)
-      (calls-give-last-put n (omega arith) hi list (s ∷ t ∷ []) k out (call (get k out)) u r b₂ (Booked.then w (Booked.then v Booked.end)) by-call (fine .0) (fine .1))
+      (calls-give-last-put n (omega arith) hi list (s ∷ t ∷ []) k out (call (get k out)) u r b₂ (Booked.then w (Booked.then v Booked.end)) by-call
+      (fine .0) (fine .1))
 
   -- ---- the get by command
   -- a register that is written

@@ -3,12 +3,13 @@
 --   Kept n k rec b     a book of n blocks whose good block k is lawful and begins with rec
 --   ..-kept            so it is after each kind of entry, and after any list, rec being the record last put
 --   gives              what a reading gives of a block whose damage is allowed: its good block is in S; comes: its answer comes back from the registers
+--   corrected-exactly  which answers are "corrected"
 --   gets-last-put      THE STATEMENT
 use Prim.Native.Nat.{ℕ, zero, suc, _*_, _/_, _≤_, _<_}
 use mathlib.Core.Path.{_≡_, refl, sym, ap, _∙_, subst}
 use mathlib.Core.Bool.{_&&_}
 use mathlib.Core.List.{List, [], _∷_}
-use mathlib.Core.Logic.{_⊎_, inl, inr, by-cases}
+use mathlib.Core.Logic.{_⊎_, inl, inr, by-cases, _↔_}
 use native.Mathlib.Omega.{arith}
 use native.Mathlib.Decide.{ℕ-discrete}
 use lib.Dec.{eqb}
@@ -31,7 +32,7 @@ use Rattle.code.proofs.Members.{zero-stored}
 use Rattle.reading.specs.Reading.{S, ReadsUnder}
 use Rattle.reading.proofs.Facts.{chip-one, card-one}
 use Rattle.reading.proofs.Gives.{reads-give}
-use Rattle.bank.specs.Calls.{clear-cause, put-cause, get-cause, patrol-cause}
+use Rattle.bank.specs.Calls.{clear-cause, put-cause, get-cause, patrol-cause, class}
 use Rattle.registers.specs.Registers.{fresh-registers}
 use Rattle.registers.specs.Write.{command-of, write-cause}
 use Rattle.registers.specs.Plain.{last-answer}
@@ -196,8 +197,19 @@ module _ (b : Book) (k : ℕ) (rec : List ℕ) (lawful : LawfulMarks (marks-of b
       let y = d .1 .1 in
       let r = read-at out a (s .output) z (subst (λ (q : Command). CommandSays b q out a (s .output) y) c (d .1 .2) .1) in
       let told : last-answer (s .after .rest .registers) ≡ a =
-      ap (λ (τ : State). last-answer (τ .rest .registers)) (t .after) ∙ ap (λ (q : Book). last-answer (registers-of q)) (d .1 .3) ∙ comes out a (s .output) r .back in
+      ap (λ (τ : State). last-answer (τ .rest .registers)) (t .after) ∙ ap (λ (q : Book). last-answer (registers-of q)) (d .1 .3)
+      ∙ comes out a (s .output) r .back in
       answered (write 0 v out) s a (t .says .1 ∙ ap says (d .0), told) (gives out a (s .output) r)
+
+-- "corrected" is what a report counts as clean, chips or card
+pub corrected-exactly : (a : Answer) → Corrected a ↔ (class a < 3)
+corrected-exactly clean = ((λ u. omega arith), λ h. tt)
+corrected-exactly (in-chips n) = ((λ u. omega arith), λ h. tt)
+corrected-exactly (in-card j n) = ((λ u. omega arith), λ h. tt)
+corrected-exactly done = ((λ u. absurd u), λ h. omega arith)
+corrected-exactly (counted v w x y z) = ((λ u. absurd u), λ h. omega arith)
+corrected-exactly (refused n) = ((λ u. absurd u), λ h. omega arith)
+corrected-exactly (refused-card n j) = ((λ u. absurd u), λ h. omega arith)
 
 pub gets-last-put : GetsLastPut
 gets-last-put n lo hi es ss b w k out e o s b′ t z d =

@@ -214,7 +214,8 @@ module _ (b : Book) (long : EachLong 45 (b .held)) where
       let n = mark-next c a m w in (
         n .0,
         (n .1, o),
-        subst (λ (x : List ℕ). Landed (with-front (n .0) (ran (registers-of b) v a (marks-of (n .0)) .front)) (state x (rest-of (ran (registers-of b) v a m)))) (sym e)
+        subst (λ (x : List ℕ). Landed (with-front (n .0) (ran (registers-of b) v a (marks-of (n .0)) .front))
+            (state x (rest-of (ran (registers-of b) v a m)))) (sym e)
             (command-next v a m (flat (b .held)) (with-record (b .rest) m) (n .0) (n .2) refl),
       )
   runs-next v Unknown lent a m bank out w = absurd w
@@ -239,7 +240,8 @@ module _ (b : Book) (long : EachLong 45 (b .held)) where
         record { state = ap₂ (λ (y : List ℕ) (s : Registers). state y (rest-of s)) f e; long = long },
       )
 
-      by : (n : ℕ) → By n x ((r ≡ registers-of b) × (bank ≡ flat (b .held)) × (out ≡ lent)) ((x ≡ done) × Writes (registers-of b) p v (flat (b .held)) lent r bank out)
+      by : (n : ℕ) → By n x ((r ≡ registers-of b) × (bank ≡ flat (b .held)) × (out ≡ lent))
+          ((x ≡ done) × Writes (registers-of b) p v (flat (b .held)) lent r bank out)
           → (b′ : Book) × By n x ((b′ ≡ b) × (out ≡ lent)) ((x ≡ done) × WriteSays b p v lent out b′) × Landed b′ (state bank (rest-of r))
       by zero (e, d) = let n = writes p d in (n .0, (e, n .1), n .2)
       by (suc n) (e, (f, g, o)) = (b, (e, (refl, o)), record { state = ap₂ (λ (y : List ℕ) (z : Registers). state y (rest-of z)) g f; long = long })

@@ -26,7 +26,8 @@ on-card : (card : CardMark) (j : ℕ) (ps b x : List ℕ) → CardInRange card �
 on-card None j ps b x r h = h .0
 on-card (Card i) j ps b x r h = omega (arith, r, h)
 
-pub reads-give : (ns : List ℕ) → In 10 ns → (m : Marks) → LawfulMarks m → (b out : List ℕ) (a : Answer) (out′ : List ℕ) → ReadsUnder m b out a out′ → Readings ns a
+pub reads-give : (ns : List ℕ) → In 10 ns → (m : Marks) → LawfulMarks m → (b out : List ℕ) (a : Answer) (out′ : List ℕ) → ReadsUnder m b out a out′
+    → Readings ns a
 reads-give ns i m l b out clean out′ w = was-clean
 reads-give ns i m l b out (in-chips n) out′ w =
     let most = chips-limit (marked-chips m) b out′ (few-length 2 (marked-chips m) (few-chips m l)) (m .card) (w .3) in

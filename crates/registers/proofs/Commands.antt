@@ -171,7 +171,8 @@ unread m b out (refused-card i j) x n h = h .3
 unread m b out done x n h = absurd h
 unread m b out (counted v w y z o) x n h = absurd h
 
-get-unread : (bank : List ℕ) (k : ℕ) (m : Marks) (out : List ℕ) (a : Answer) (bank′ out′ : List ℕ) → GetDone bank k m out a bank′ out′ → number a ≢ 0 → out′ ≡ out
+get-unread : (bank : List ℕ) (k : ℕ) (m : Marks) (out : List ℕ) (a : Answer) (bank′ out′ : List ℕ) → GetDone bank k m out a bank′ out′ → number a ≢ 0
+    → out′ ≡ out
 get-unread bank k m out a bank′ out′ w n = go (get-cause (length bank) k m (length out)) (w .output)
   where
     go : (c : ℕ) → By c a (out′ ≡ out) (ReadsUnder m (block bank k) out a out′) → out′ ≡ out

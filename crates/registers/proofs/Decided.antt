@@ -2,13 +2,18 @@
 --
 --   ran-agree       two answers that agree but for that card are told alike, but for it
 --   runs-decided    two outcomes of a command
+--   but-card-only   while byte 4 is not 27, all registers are compared
 --   write-decided   THE STATEMENT
 use Prim.Native.Nat.{ℕ, zero, suc}
 use mathlib.Core.Path.{_≡_, refl, sym, ap, _∙_}
 use mathlib.Core.Logic.{_≢_}
+use mathlib.Core.Bool.{Bool}
 use mathlib.Core.List.{List}
 use native.Mathlib.Omega.{arith}
 use lib.Dec.{eqb}
+use lib.ListN.{set}
+use lib.Seq.{set-getD}
+use borrow.Author.Tests.{ne-eqb}
 use Rattle.base.specs.Base.{if}
 use Rattle.answer.specs.Answer.{Answer, done, clean, in-chips, in-card, counted, refused, refused-card, but-card, By}
 use Rattle.marks.specs.declared.Marks.{Marks}
@@ -88,6 +93,13 @@ runs-decided m (Mark c) bank out a a′ m′ m″ bank′ bank″ out′ out″ 
     let e = mark-decided m c a a′ m′ m″ w v in
     record { answer = e .0; marks = e .1; bank = b ∙ sym d; output = o ∙ sym p }
 runs-decided m Unknown bank out a a′ m′ m″ bank′ bank″ out′ out″ w v = absurd w
+
+-- the card with 11 is all that is left out: while byte 4 is another, nothing is
+pub but-card-only : (r : Registers) → register r 4 ≢ 27 → but-card-registers r ≡ r
+unfolding but-card-registers
+but-card-only r n =
+    ap (λ (f : List ℕ). record { front = f; marks = r .marks })
+    (ap (λ (t : Bool). set (r .front) 5 (if t 0 (register r 5))) (ne-eqb (register r 4) 27 n) ∙ set-getD (r .front) 5 0)
 
 pub write-decided : WriteDecided
 unfolding WriteDone

@@ -68,7 +68,8 @@ share-true (suc n) x y e = go (is-set n x) (is-set n y) refl refl e (λ z. share
     later w = (w .0, lt-trans (w .1) (lt-suc-self n), w .2, w .3)
 
     go : (s t : Bool) → is-set n x ≡ s → is-set n y ≡ t → (s && t) || share n x y ≡ true
-        → (share n x y ≡ true → (i : ℕ) × (i < n) × (is-set i x ≡ true) × (is-set i y ≡ true)) → (i : ℕ) × (i < suc n) × (is-set i x ≡ true) × (is-set i y ≡ true)
+        → (share n x y ≡ true → (i : ℕ) × (i < n) × (is-set i x ≡ true) × (is-set i y ≡ true))
+        → (i : ℕ) × (i < suc n) × (is-set i x ≡ true) × (is-set i y ≡ true)
     go true true p q e r = (n, lt-suc-self n, p, q)
     go true false p q e r = later (r e)
     go false t p q e r = later (r e)

@@ -33,7 +33,8 @@ returns-6 c = simp (c .match .keys6)
 returns-7 : tie.Need-returns-7
 unfolding command-of
 returns-7 c = let h = c .match .rest in
-    sym (unknown (c .before .before .args .r) (c .before .before .args .v) (h .0 .0 .0 .0 .0 .1) (h .0 .0 .0 .0 .1) (h .0 .0 .0 .1) (h .0 .0 .1) (h .0 .1) (h .1))
+    sym (unknown (c .before .before .args .r) (c .before .before .args .v) (h .0 .0 .0 .0 .0 .1) (h .0 .0 .0 .0 .1) (h .0 .0 .0 .1) (h .0 .0 .1)
+    (h .0 .1) (h .1))
 
 pub command-of-spec : {M : Type 1} → statement M
 command-of-spec =

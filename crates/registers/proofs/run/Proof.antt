@@ -31,8 +31,8 @@ returns-2 c =
     let t = f .before in
     let g = t .before .before .before in
     let k = g .before .before .before in
-    command-done _ _ _ _ _ (sym (k .k2 .given .1) ∙ k .before .before .command-of .ensures) _ _ _ _ (g .patrol .ensures, refl, refl) _ (t .of-reading2 .ensures) _
-    (f .after2 .ensures) _ (c .accepted2 .ensures .0) _ (c .accepted2 .ensures .1)
+    command-done _ _ _ _ _ (sym (k .k2 .given .1) ∙ k .before .before .command-of .ensures) _ _ _ _ (g .patrol .ensures, refl, refl) _ (t .of-reading2 .ensures)
+    _ (f .after2 .ensures) _ (c .accepted2 .ensures .0) _ (c .accepted2 .ensures .1)
 
 returns-3 : tie.Need-returns-3
 returns-3 c =
