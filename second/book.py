@@ -1,19 +1,27 @@
-"""Document 01's book, with order 1's registers, for the lists of demand 3.
+"""Document 01's book, with order 1's registers and order 2's window, for the lists
+of demand 3.
 
-It uses none of the calls of reference.py and registers.py, so that each can be
-compared with it.
+It uses none of the calls of reference.py, registers.py and window.py, so that
+each can be compared with it.
 """
 
-from reference import (Answer, BLOCK, CARDS, MOST_BLOCKS, Marks, RECORD, changed,
-                       close_marks, is_allowed, is_chip_kind, read_opened, store,
+from functools import lru_cache
+
+import reference
+from reference import (Answer, BLOCK, CARDS, CHIPS, MOST_BLOCKS, Marks, RECORD,
+                       changed, close_marks, is_allowed, is_chip_kind, store,
                        total_of)
+
+# A block may be read many times before it or the marks change; S is found once.
+read_opened = lru_cache(maxsize=256)(reference.read_opened)
 
 
 class Book:
     """01's book: fed the calls' arguments and the hits, it gives the answers.
 
     For each block it keeps good and held; beside them the marks in force,
-    which are registers 8 to 11 as well, and the eight registers before those.
+    which are registers 8 to 11 as well, the eight registers before those, and
+    the whole run of corrected positions since the window's last clear.
     """
 
     def __init__(self, blocks):
@@ -22,6 +30,7 @@ class Book:
         self.card = None
         self.chips = []
         self.eight = bytearray(8)      # registers 0 to 7
+        self.run = []
         self.clear()
 
     # What stands after each entry.
@@ -44,6 +53,23 @@ class Book:
     def interrupt(self):
         """Order 1: raised "while bytes 6 and 7 share a set bit"."""
         return self.eight[6] & self.eight[7] != 0
+
+    def window(self):
+        """The last 64 of the run, oldest first; 255s before them make up 64."""
+        return bytes(self.run[-64:]).rjust(64, b"\xFF")
+
+    def often(self):
+        """The chips that stand in the window four times or more."""
+        last = bytes(self.run[-64:])
+        return {chip for chip in set(last) if last.count(chip) >= 4}
+
+    def is_marked(self, chip):
+        return chip in self.chips or chip // CHIPS == self.card
+
+    def proposal(self):
+        """The lowest of those, neither it nor its card being marked; 255 for none."""
+        return min((chip for chip in self.often() if not self.is_marked(chip)),
+                   default=255)
 
     # The entries.
 
@@ -74,17 +100,28 @@ class Book:
             return Answer(2), before
         if k >= self.blocks:
             return Answer(5), before
-        answer, member = read_opened(bytes(self.held[k]), self.in_force())
+        answer, member = self._read(k)
         return answer, (before if member is None else member)
 
     def patrol(self, k):
         if k >= self.blocks:
             return Answer(5)
         self.patrols_allowed[k] &= self.damage_allowed(k)
-        answer, member = read_opened(bytes(self.held[k]), self.in_force())
+        answer, member = self._read(k)
         if member is not None:
             self.held[k] = bytearray(member)
         return answer
+
+    def _read(self, k):
+        """(answer, member or None); a get and a patrol alone add to the run."""
+        answer, member = read_opened(bytes(self.held[k]), self.in_force())
+        if member is not None:
+            self.run += changed(self.held[k], member)
+        return answer, member
+
+    def clear_window(self):
+        self.run = []
+        return Answer()
 
     def report(self):
         """(answer, totals)."""

@@ -1,8 +1,9 @@
-"""Seeded inputs for the comparison: mark records, registers, damaged banks.
+"""Seeded inputs for the comparison: mark records, registers, damaged banks, windows.
 
 Every choice comes from the random.Random that is handed in, so a seed gives
 the same input again.  MARK_SHAPES names the ways of making a mark record,
-DAMAGE the ways of damaging a lawful block under it.
+DAMAGE the ways of damaging a lawful block under it, WINDOWS those of filling a
+window.
 
 Command line: writes a mark record and a damaged bank to standard output.
 """
@@ -12,6 +13,7 @@ import random
 import sys
 
 import reference as ref
+import window
 from reference import BLOCK, CARDS, CHIPS, RECORD, UNUSED
 
 
@@ -379,7 +381,7 @@ def any_record(rng):
 
 def _marks_for_damage(record):
     """Opened marks; fresh ones stand in for a record that is refused."""
-    lawful = ref.marks_cause(record) == 0
+    lawful = len(record) == 4 and ref.marks_cause(record) == 0
     return ref.open_marks(record if lawful else ref.FRESH)
 
 
@@ -430,6 +432,61 @@ def program_input(rng):
     if sort == 4:
         return record + bytes(BLOCK * rng.choice([0, 1025, 1026]))
     return record + bank
+
+
+# ----------------------------------------------------------------- windows
+#
+# Each sort takes the opened marks, since a marked chip is passed over, and gives
+# 64 bytes of any content.
+
+def _window(rng, bytes_of_it):
+    return bytes(rng.choices(bytes_of_it, k=window.SIZE))
+
+
+def empty_window(rng, marks):
+    return window.START
+
+
+def positions_at_the_end(rng, marks):
+    first = rng.randrange(1, window.SIZE)
+    return window.START[:first] + full_window(rng, marks)[first:]
+
+
+def full_window(rng, marks):
+    return _window(rng, range(BLOCK))
+
+
+def a_few_chips(rng, marks):
+    return _window(rng, [*rng.sample(range(BLOCK), rng.randrange(1, 6)), UNUSED])
+
+
+def around_four(rng, marks):
+    """Chips three to five times, marked ones too, among bytes that are none."""
+    chips = {*marks.chips, *rng.sample(range(BLOCK), 3)}
+    if marks.card is not None:
+        chips.add(rng.choice(_on(marks.card)))
+    run = [chip for chip in chips for _ in range(rng.choice([3, 4, 5]))]
+    run += rng.choices(range(BLOCK, 256), k=window.SIZE - len(run))
+    rng.shuffle(run)
+    return bytes(run)
+
+
+def no_positions(rng, marks):
+    return _window(rng, [BLOCK, UNUSED, *rng.sample(range(BLOCK, 256), 9)])
+
+
+def any_64_bytes(rng, marks):
+    return rng.randbytes(window.SIZE)
+
+
+WINDOWS = {sort.__name__: sort for sort in (
+    empty_window, positions_at_the_end, full_window, a_few_chips, around_four,
+    no_positions, any_64_bytes)}
+
+
+def any_window(rng, record, sort=None):
+    """A window of the named sort, or of any, under a mark record of any bytes."""
+    return WINDOWS[sort or rng.choice(list(WINDOWS))](rng, _marks_for_damage(record))
 
 
 # ------------------------------------------------------------ command line

@@ -3,10 +3,12 @@
 The cabinet's processor sees the corrector as twelve bytes: 0 command, 1 and 2
 block number, 3 chip or card, 4 last answer, 5 its n and card, 6 enable bits,
 7 pending bits, 8 to 11 the mark record.  They are lent as a bytearray, as bank
-and output are; a write of byte 0 runs a call of reference.py on them.
+and output are; a write of byte 0 runs a call of reference.py on them, get and
+patrol with order 2's window.
 """
 
 import reference as ref
+from window import get, patrol
 
 SIZE = 12
 COMMAND, LOW, HIGH, ASKED, LAST, DETAIL, ENABLE, PENDING = range(8)
@@ -19,10 +21,12 @@ MARKED = 3                             # last answer: a mark placed or lifted
 REFUSED = 16                           # last answer: this plus the number
 DONE_BIT, REFUSED_BIT = 1, 2           # bits 0 and 1 of the pending bits
 
-# Each command as a call: block number, byte 3, marks, bank, output.
+# Each command as a call: block number, byte 3, marks, bank, output, window.
 CALLS = {
-    GET: lambda k, asked, marks, bank, output: ref.get(bank, k, output, marks),
-    PATROL: lambda k, asked, marks, bank, output: ref.patrol(bank, k, marks),
+    GET: lambda k, asked, marks, bank, output, window: get(
+        bank, k, output, marks, window),
+    PATROL: lambda k, asked, marks, bank, output, window: patrol(
+        bank, k, marks, window),
     MARK_CHIP: lambda k, asked, marks, *_: ref.place_chip(marks, asked),
     MARK_CARD: lambda k, asked, marks, *_: ref.place_card(marks, asked),
     LIFT_CHIP: lambda k, asked, marks, *_: ref.lift_chip(marks, asked),
@@ -39,7 +43,7 @@ def write_cause(address, value):
     return 14 if address == COMMAND and value not in CALLS else 0
 
 
-def write(registers, address, value, bank, output):
+def write(registers, address, value, bank, output, window):
     """Write one byte: (number, answer of the command or None if none ran).
 
     Refusals 12, 13, 14.  A command that is refused by another number is a
@@ -49,18 +53,18 @@ def write(registers, address, value, bank, output):
     if number:
         return number, None
     if address == COMMAND:
-        return 0, run(registers, value, bank, output)
+        return 0, run(registers, value, bank, output, window)
     if address == PENDING:
         value = registers[PENDING] & ~value
     registers[address] = value
     return 0, None
 
 
-def run(registers, command, bank, output):
+def run(registers, command, bank, output, window):
     """Run a command and enter its answer.  The card with 11 is the lowest."""
     k = registers[LOW] + 256 * registers[HIGH]
     marks = bytearray(registers[MARKS])
-    answer = CALLS[command](k, registers[ASKED], marks, bank, output)
+    answer = CALLS[command](k, registers[ASKED], marks, bank, output, window)
     registers[MARKS] = marks
     registers[COMMAND] = command
     registers[LAST] = last_answer(command, answer)

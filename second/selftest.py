@@ -1,7 +1,7 @@
-"""Checks of the second implementation against document 01 and order 1.
+"""Checks of the second implementation against document 01 and orders 1 and 2.
 
-Those of reference.py and bank.py are here, those of the registers and of the
-lists in selftest_registers.py and selftest_lists.py.
+Those of reference.py and bank.py are here, those of the registers, the window
+and the lists in selftest_registers.py, selftest_window.py and selftest_lists.py.
 
 Prints 'N checks, 0 failed', or a message for each failure and exit 1.
 """
@@ -17,6 +17,7 @@ import damage
 import reference as ref
 import selftest_lists
 import selftest_registers
+import selftest_window
 from checking import check, counts, marks, zeros_with
 from reference import (Answer, BLOCK, CARDS, CHIPS, CLEAN, FRESH, IN_CARD,
                        IN_CHIPS, Marks, RECORD)
@@ -539,6 +540,7 @@ def main():
     check_single_chips()
     check_damage(rng)
     selftest_registers.check_registers(rng)
+    selftest_window.check_window()
     selftest_lists.check_lists(rng)
     check_program(rng)
     check_rounding()

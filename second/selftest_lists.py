@@ -1,12 +1,14 @@
 """Lists of demand 3 on lent bytes, against the book; selftest.py runs them.
 
 The entries are calls, hits and register writes, wrong ones too.  The marks of
-the calls are registers 8 to 11, so that both write the same record.
+the calls are registers 8 to 11, so that both write the same record.  Bank,
+registers, window, interrupt and proposal are compared after every entry.
 """
 
 import damage
 import reference as ref
 import registers
+import window
 from book import Book
 from checking import check
 from reference import BLOCK, CARDS, RECORD
@@ -23,8 +25,9 @@ def any_call(rng, blocks):
         [("clear",), ("put", k, rng.randbytes(length)), ("get", k, output),
          ("patrol", k), ("report",), ("place_chip", chip),
          ("place_card", card), ("lift_chip", chip), ("lift_card",),
-         ("hits", k % blocks), ("write", *any_write(rng, blocks), output)],
-        [1, 12, 20, 10, 4, 6, 3, 6, 3, 30, 60])[0]
+         ("clear_window",), ("hits", k % blocks),
+         ("write", *any_write(rng, blocks), output)],
+        [1, 12, 20, 10, 4, 6, 3, 6, 3, 1, 30, 60])[0]
 
 
 def any_write(rng, blocks):
@@ -45,53 +48,77 @@ def any_hits(rng, book, k):
     return [(BLOCK * k + p, block[p]) for p in ref.changed(block, book.held[k])]
 
 
+class Both:
+    """One list of demand 3: the calls on lent bytes beside the book."""
+
+    def __init__(self, blocks):
+        self.book, self.bank = Book(blocks), bytearray(BLOCK * blocks)
+        self.registers = bytearray(registers.START)
+        self.marks = memoryview(self.registers)[registers.MARKS]
+        self.window = bytearray(window.START)
+
+    def do(self, call, *asked):
+        """One entry, or some hits: the same answer and the same bytes after it."""
+        if call == "hits":
+            got = wanted = self.hits(*asked)
+        elif call == "get":
+            got, wanted = self.get(*asked)
+        elif call == "write":
+            got, wanted = self.write(*asked)
+        else:
+            got = self.on_lent_bytes(call, *asked)
+            wanted = getattr(self.book, call)(*asked)
+        name = f"{call} {asked}"
+        check(name, got, wanted)
+        check(name + ": bank, registers, window",
+              (bytes(self.bank), bytes(self.registers), bytes(self.window)),
+              (self.book.bank(), self.book.registers(), self.book.window()))
+        check(name + ": interrupt",
+              registers.interrupt(self.registers), self.book.interrupt())
+        check(name + ": proposal",
+              window.propose(self.window, self.marks), (0, self.book.proposal()))
+
+    def on_lent_bytes(self, call, *asked):
+        if call in ("clear", "put"):
+            return getattr(ref, call)(self.bank, *asked)
+        if call == "patrol":
+            return window.patrol(self.bank, *asked, self.marks, self.window)
+        if call == "report":
+            return ref.report(self.bank, self.marks)
+        if call == "clear_window":
+            return window.clear(self.window)
+        return getattr(ref, call)(self.marks, *asked)
+
+    def hits(self, *hits):
+        for at, value in hits:
+            self.book.hit(at, value)
+            self.bank[at] = value
+
+    def get(self, k, before):
+        output = bytearray(before)
+        got = window.get(self.bank, k, output, self.marks, self.window)
+        check_promise(self.book, k, got, output)
+        return (got, bytes(output)), self.book.get(k, before)
+
+    def write(self, address, value, before):
+        output = bytearray(before)
+        number, got = registers.write(self.registers, address, value, self.bank,
+                                      output, self.window)
+        if got is not None and value == registers.GET:
+            check_promise(self.book, self.book.block_number(), got, output)
+        return ((number, got, bytes(output)),
+                self.book.write_register(address, value, before))
+
+
 def run_list(rng, entries):
-    """One list of demand 3: the calls on lent bytes against the book."""
+    """A list of any entries."""
     blocks = rng.choice([1, 2, 5])
-    book, lent = Book(blocks), bytearray(BLOCK * blocks)
-    held = bytearray(registers.START)
-    record = memoryview(held)[registers.MARKS]
+    both = Both(blocks)
     for _ in range(entries):
         call, *asked = any_call(rng, blocks)
         if call == "hits":
-            for at, value in any_hits(rng, book, asked[0]):
-                book.hit(at, value)
-                lent[at] = value
-            got = wanted = None
-        elif call == "get":
-            got, wanted = run_get(book, lent, record, *asked)
-        elif call == "write":
-            got, wanted = run_write(book, lent, held, *asked)
-        elif call in ("clear", "put"):
-            got = getattr(ref, call)(lent, *asked)
-            wanted = getattr(book, call)(*asked)
-        elif call in ("patrol", "report"):
-            got = getattr(ref, call)(lent, *asked, record)
-            wanted = getattr(book, call)(*asked)
-        else:
-            got = getattr(ref, call)(record, *asked)
-            wanted = getattr(book, call)(*asked)
-        check(f"{call} {asked}", got, wanted)
-        check(f"{call} {asked}: bank and registers",
-              (bytes(lent), bytes(held)), (book.bank(), book.registers()))
-        check(f"{call} {asked}: interrupt",
-              registers.interrupt(held), book.interrupt())
-
-
-def run_get(book, lent, record, k, before):
-    output = bytearray(before)
-    got = ref.get(lent, k, output, record)
-    check_promise(book, k, got, output)
-    return (got, bytes(output)), book.get(k, before)
-
-
-def run_write(book, lent, held, address, value, before):
-    output = bytearray(before)
-    number, got = registers.write(held, address, value, lent, output)
-    if got is not None and value == registers.GET:
-        check_promise(book, book.block_number(), got, output)
-    return ((number, got, bytes(output)),
-            book.write_register(address, value, before))
+            asked = any_hits(rng, both.book, *asked)
+        both.do(call, *asked)
 
 
 def check_promise(book, k, got, output):

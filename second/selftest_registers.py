@@ -5,6 +5,7 @@ Where order 1 leaves a point open, the figures are those of the reading taken.
 
 import reference as ref
 import registers
+import window
 from book import Book
 from checking import check, marks, zeros_with
 from damage import any_registers
@@ -38,6 +39,11 @@ def book_with(before):
     book.eight[:] = before[:8]
     book.card, book.chips = now.card, list(now.chips)
     return book
+
+
+def lent(before, bank=BANK, output=OUTPUT):
+    """What a write is lent: registers, bank, output and window."""
+    return [bytearray(part) for part in (before, bank, output, window.START)]
 
 
 # -------------------------------------------------------------- the commands
@@ -87,14 +93,14 @@ COMMANDS = (
 
 
 def plain_call(command, before):
-    """Bank and output after the call that the command does."""
-    lent, output = bytearray(BANK), bytearray(OUTPUT)
+    """Bank, output and window after the call that the command does."""
+    _, bank, output, recent = lent(before)
     k, record = before[1] + 256 * before[2], before[MARKS]
     if command == GET:
-        ref.get(lent, k, output, record)
+        window.get(bank, k, output, record, recent)
     if command == PATROL:
-        ref.patrol(lent, k, record)
-    return bytes(lent), bytes(output)
+        window.patrol(bank, k, record, recent)
+    return bank, output, recent
 
 
 def check_commands():
@@ -102,21 +108,21 @@ def check_commands():
         before = held(record, asked)
         name = f"command {command} with {tuple(before)}"
         pending = WAITING | (1 if last < 16 else 2)
-        now, lent, output = bytearray(before), bytearray(BANK), bytearray(OUTPUT)
-        number, answer = registers.write(now, 0, command, lent, output)
+        now, bank, output, recent = lent(before)
+        number, answer = registers.write(now, 0, command, bank, output, recent)
         check(name, number, 0)
         check(name + ": byte 5", now[5] in details)
         check(name + ": what byte 5 may be", registers.details(answer), set(details))
         check(name + ": registers", bytes(now),
               bytes((command, *asked, last, now[5], ENABLED, pending))
               + (after or record))
-        check(name + ": bank and output", (bytes(lent), bytes(output)),
+        check(name + ": bank, output, window", (bank, output, recent),
               plain_call(command, before))
         book = book_with(before)
         said = book.write_register(0, command, OUTPUT)
         check(name + ": the book says", said, (0, answer, bytes(output)))
-        check(name + ": the book after it", (book.bank(), book.registers()),
-              (bytes(lent), bytes(now)))
+        check(name + ": the book after it",
+              (book.bank(), book.registers(), book.window()), (bank, now, recent))
 
 
 # Bytes of output and bank, marks, block number, command; then byte 4.
@@ -141,13 +147,14 @@ def check_causes():
     """Lent bytes of any length; a refused command changes only registers."""
     for out, size, record, k, command, last in CAUSES:
         before = held(record, (k, 0, 0))
-        now, lent, output = bytearray(before), bytearray(BANK[:size]), bytearray(out)
+        now, bank, output, recent = lent(before, BANK[:size], bytes(out))
         name = f"command {command}, {out} and {size} bytes, {tuple(before)}"
-        check(name, registers.write(now, 0, command, lent, output)[0], 0)
+        check(name, registers.write(now, 0, command, bank, output, recent)[0], 0)
         bit = 1 if last < 16 else 2
         check(name + ": registers", (now[0], now[4], now[5], now[6], now[7]),
               (command, last, 0, ENABLED, WAITING | bit))
-        check(name + ": bank and output", (lent, output), (BANK[:size], bytes(out)))
+        check(name + ": bank, output, window", (bank, output, recent),
+              (BANK[:size], bytes(out), window.START))
         if last > 15:
             check(name + ": marks", now[MARKS], record)
 
@@ -170,15 +177,15 @@ def check_refusals(rng):
             number = write_number(address, value)
             for before in (registers.START, held(BAD6, (9, 9, 9)),
                            any_registers(rng)):
-                now, lent, output = bytearray(before), bytearray(44), bytearray(44)
-                said = registers.write(now, address, value, lent, output)
+                now, *others = lent(before, bytes(44), bytes(44))
+                said = registers.write(now, address, value, *others)
                 name = f"write {value} to {address} of {tuple(before)}"
                 check(name, said[0], number)
                 check(name + ": runs a command", said[1] is not None,
                       address == 0 and number == 0)
                 if number:
-                    check(name + " changes nothing", (now, lent, output),
-                          (before, bytes(44), bytes(44)))
+                    check(name + " changes nothing", [now, *others],
+                          [before, bytes(44), bytes(44), window.START])
             book = Book(1)
             check(f"the book's write {value} to {address}",
                   book.write_register(address, value, b"")[0], number)
@@ -200,13 +207,13 @@ def check_reads(rng):
 
 def written(before, address, value):
     """The registers after one write, by both ways of writing it."""
-    now, lent, output = bytearray(before), bytearray(BANK), bytearray(OUTPUT)
-    registers.write(now, address, value, lent, output)
+    now, *others = lent(before)
+    registers.write(now, address, value, *others)
     book = book_with(before)
     book.write_register(address, value, OUTPUT)
     check(f"the book and write {value} to {address}", book.registers(), now)
-    check(f"write {value} to {address}: bank and output",
-          address == 0 or (lent, output) == (BANK, OUTPUT))
+    check(f"write {value} to {address}: bank, output, window",
+          address == 0 or others == [BANK, OUTPUT, window.START])
     return bytes(now)
 
 

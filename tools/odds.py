@@ -85,6 +85,14 @@ def two_chips_marked_one_more(rng):
     return block, mark_record(255, *marked)
 
 
+def chip_of_bad_card(rng):
+    """one chip marked, its card of random bytes"""
+    block = bytearray(BLOCK)
+    card = rng.randrange(CARDS)
+    random_card(rng, block, card)
+    return block, mark_record(255, CHIPS * card + rng.randrange(CHIPS))
+
+
 def card_marked_another_bad(rng):
     """a card marked, another card of random bytes"""
     block = bytearray(BLOCK)
@@ -142,6 +150,9 @@ FIGURES = (
     (card_and_chip_one_more, ("none", Fraction(1))),
     (card_and_chip_two_more, ("wrong record", Fraction(1, 255))),
     (card_and_two_chips_one_more, ("wrong record", Fraction(1))),
+    # The other cards fit the card's 256^7 changes that fit them with no mark,
+    # each with any change in the chip; no change but in the chip is one record.
+    (chip_of_bad_card, ("several", Fraction(256 * (256 ** 7 - 1), 256 ** 9))),
 )
 
 
@@ -149,12 +160,18 @@ def percent(part):
     return f"{float(100 * part):.4g} %"
 
 
-def main():
-    parser = argparse.ArgumentParser(description=__doc__.splitlines()[0])
+def settings(name, doc, trials):
+    """Seed and trials from the command line, printed as a command again."""
+    parser = argparse.ArgumentParser(description=doc.splitlines()[0])
     parser.add_argument("--seed", type=int, default=1)
-    parser.add_argument("--trials", type=int, default=50_000)
+    parser.add_argument("--trials", type=int, default=trials)
     args = parser.parse_args()
-    print(f"python3 tools/odds.py --seed {args.seed} --trials {args.trials}")
+    print(f"python3 tools/{name} --seed {args.seed} --trials {args.trials}")
+    return args
+
+
+def main():
+    args = settings("odds.py", __doc__, 50_000)
     for figure, exact in FIGURES:
         rng = random.Random(args.seed)
         tally = Counter(verdict(*figure(rng)) for _ in range(args.trials))

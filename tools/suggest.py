@@ -107,9 +107,35 @@ def _about_chips(seen):
         yield 7, f"Two chips are marked; {_unread_words(seen)}."
 
 
-def suggestions(seen):
-    texts = rules()
+def _as_bad_cards(patrolled):
+    """Unmarked cards of which blocks were read as the card, and more than one
+    chip stands in the window often: a bad card shows as its chips."""
+    seen = patrolled.seen
+    return [j for j in range(CARDS) if seen.as_card[j] and seen.marks[0] != j
+            and len(patrolled.often_on(j)) > 1]
+
+
+def _about_window(patrolled):
+    seen, p = patrolled.seen, patrolled.proposed
+    cards = _as_bad_cards(patrolled)
+    for j in cards:
+        yield 2, (f"{len(patrolled.often_on(j))} chips of card {j} stand in the "
+                  "window four times or more, and "
+                  f"{plural(seen.as_card[j], 'block')} read as card {j}: a bad card "
+                  "shows so.")
+    if p is None or p // CHIPS in cards:
+        return
+    if seen.marked_card() is None:
+        yield 7, f"Proposed, not marked: {chip_words(p)}."
+    else:
+        yield 1, (f"Proposed beside marked card {seen.marked_card()}: "
+                  f"{chip_words(p)}, mended as the one further chip.")
+
+
+def suggestions(patrolled):
+    seen, texts = patrolled.seen, rules()
     facts = [*_about_no_marks(seen), *_about_unread(seen),
-             *_about_card_mark(seen), *_about_chips(seen)]
+             *_about_card_mark(seen), *_about_chips(seen),
+             *_about_window(patrolled)]
     facts.sort(key=lambda fact: fact[0])
     return [Suggestion(rule, because, texts[rule]) for rule, because in facts]

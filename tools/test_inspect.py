@@ -263,7 +263,7 @@ class Manual(unittest.TestCase):
     def test_its_example_is_what_is_said(self):
         example = re.search(r'^\.\\" example\n(.*?)^\.EE', self.page, re.M | re.S)[1]
         made, shown, *wanted = example.replace("\\-", "-").replace("\\e", "\\") \
-            .replace("\\&", "").splitlines()
+            .replace("\\&", "").replace("\\\n", "").splitlines()
         shown = shown.replace("inspect", f"inspect --library '{ARCHIVE}'", 1)
         said = run_shell(f"set -e; cd '{ROOT}'; f=$(mktemp -d); trap 'rm -r $f' EXIT;"
                          f"{made[2:].replace('bank.dump', '$f/bank.dump')};"

@@ -10,10 +10,16 @@ from trying import (ARCHIVE, CARD, CHIPS, CLEAN, NONE, ROOT, SEVERAL, InFolder,
 
 import files
 import suggest
+from patrolled import Patrolled
 from progress import Progress
 from readings import FromLibrary, Seen
 
 LAST_CARD = block(*[(p, 3 + p) for p in range(36, 45)])
+
+
+def suggested(lib, record, bank):
+    seen = Seen(FromLibrary(lib), record, bank)
+    return suggest.suggestions(Patrolled(lib, seen, bank))
 
 
 class Rules(unittest.TestCase):
@@ -45,16 +51,21 @@ class Rules(unittest.TestCase):
                     (marks(4, 44), LAST_CARD, [4, 5, 9]),
                     (marks(4, 0), LAST_CARD + block((0, 1)), [4, 5]),
                     (marks(4, 0, 1), LAST_CARD + block((0, 1), (1, 1)), [4, 5, 8]),
-                    (marks(4, 0, 44), LAST_CARD + block((0, 1)), [4, 5, 9])):
-                seen = Seen(FromLibrary(lib), record, bank)
-                got = [s.rule for s in suggest.suggestions(seen)]
+                    (marks(4, 0, 44), LAST_CARD + block((0, 1)), [4, 5, 9]),
+                    # With a proposal: a failing chip, a bad card, both, a
+                    # chip beside a marked card, two chips of one card.
+                    (marks(), CHIPS * 4, [1, 3, 7, 7]),
+                    (marks(), LAST_CARD * 4, [1, 2, 3]),
+                    (marks(), LAST_CARD * 4 + CHIPS * 4, [1, 2, 3, 7, 7]),
+                    (marks(4), LAST_CARD * 4 + CHIPS * 4, [1, 4, 5]),
+                    (marks(), (CHIPS + block((19, 1))) * 4, [1, 3, 7, 7])):
+                got = [s.rule for s in suggested(lib, record, bank)]
                 self.assertEqual(got, wanted, (tuple(record), bank.hex()))
 
     def test_the_facts(self):
         with library.open_library(ARCHIVE) as lib:
-            seen = Seen(FromLibrary(lib), marks(), CHIPS + CHIPS + NONE + SEVERAL)
-        facts = [s.because for s in suggest.suggestions(seen)]
-        self.assertEqual(facts, [
+            found = suggested(lib, marks(), CHIPS + CHIPS + NONE + SEVERAL)
+        self.assertEqual([s.because for s in found], [
             'No card is marked; 2 blocks unread: 1 as "none", 1 as "several".',
             "Nothing is marked, and 2 blocks would be put right.",
             "Of 2 blocks read: card 2 changed in 2.",

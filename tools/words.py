@@ -2,6 +2,7 @@
 
 import json
 import textwrap
+from itertools import groupby
 
 from readings import BLOCK, CARDS, CHIPS, TOTALS, marks_in_words, plural
 from reference import sound_per_thousand
@@ -84,10 +85,69 @@ def card_lines(seen):
 
 
 def suggestion_lines(suggested):
+    """The facts that call for a rule, then the rule, once."""
     lines = []
-    for rule, because, text in suggested:
-        lines += [wrapped(because), wrapped(f'Rule {rule}: "{text}"', "    ")]
+    for (rule, text), facts in groupby(suggested, lambda s: (s.rule, s.text)):
+        lines += [wrapped(fact.because) for fact in facts]
+        lines.append(wrapped(f'Rule {rule}: "{text}"', "    "))
     return lines
+
+
+# ----------------------------------------------------------------- the window
+
+def proposal_words(patrolled):
+    """The proposal, and where it is not alone the chips of its card beside it."""
+    p = patrolled.proposed
+    if p is None:
+        return "No chip is proposed."
+    card, chip = divmod(p, CHIPS)
+    said = f"Proposed: card {card} chip {chip} (position {p})."
+    often = len(patrolled.often_on(card))
+    if often > 1:
+        said += (f" Of card {card}, {often} chips stand in the window four times "
+                 "or more.")
+    return said
+
+
+def added_words(patrolled):
+    """How many positions were added, and how many of them are held."""
+    added, held = patrolled.added, len(patrolled.held)
+    said = f"The patrol added {plural(added, 'position')}"
+    if added > held:
+        said += f"; the last {held} are held, and {added - held:,} have left"
+    elif added:
+        said += ", all held"
+    unread = len(patrolled.seen.unread)
+    if unread:
+        said += f"; {plural(unread, 'unread block')} added nothing"
+    return said + "."
+
+
+def standing(patrolled, p):
+    """What is said behind a position that stands in the window."""
+    if p == patrolled.proposed:
+        return "; proposed"
+    why = patrolled.passed_over(p)
+    return f"; passed over, {why}" if why else ""
+
+
+def count_lines(patrolled):
+    """Positions in the window, those that are alike in one line."""
+    alike = {}
+    for p in patrolled.by_times():
+        key = patrolled.times[p], standing(patrolled, p)
+        alike.setdefault(key, []).append(p)
+    return [wrapped(f"{plural(times, 'time')}: {places(found)}{said}", "    ")
+            for (times, said), found in alike.items()]
+
+
+def window_lines(patrolled):
+    return [wrapped(proposal_words(patrolled)), wrapped(added_words(patrolled)),
+            *count_lines(patrolled),
+            wrapped("The lowest chip that stands there four times or more, "
+                    "unmarked and on an unmarked card, is proposed. No mark is "
+                    "placed: docs/DATA-SHEET.md says when to, and what a "
+                    "proposal does not mean.")]
 
 
 # ------------------------------------------------------------------ the whole
@@ -108,7 +168,8 @@ def written_lines(seen, written):
     return lines
 
 
-def in_words(name, seen, suggested, written):
+def in_words(name, patrolled, suggested, written):
+    seen = patrolled.seen
     lines = [wrapped(f"{name}: {plural(seen.blocks, 'block')}. "
                      f"{marks_in_words(seen)}.", "")]
     lines += part("How the blocks read", totals(seen))
@@ -118,6 +179,8 @@ def in_words(name, seen, suggested, written):
                   card_lines(seen))
     lines += part(f"Chips changed, of {plural(seen.read, 'block')} read",
                   chip_lines(seen))
+    lines += part("What the window proposes after a patrol in memory",
+                  window_lines(patrolled))
     lines += part("What the figures suggest, by the rules in docs/DATA-SHEET.md",
                   suggestion_lines(suggested))
     lines += part("Written", written_lines(seen, written))
@@ -142,7 +205,21 @@ def block_object(u):
     return made
 
 
-def in_json(name, seen, suggested, written):
+def count_object(patrolled, p):
+    made = chip_object(p, times=patrolled.times[p])
+    if patrolled.passed_over(p):
+        made["passed_over"] = patrolled.passed_over(p)
+    return made
+
+
+def window_object(patrolled):
+    return {"added": patrolled.added,
+            "positions": patrolled.held,
+            "counts": [count_object(patrolled, p) for p in patrolled.by_times()]}
+
+
+def in_json(name, patrolled, suggested, written):
+    seen, p = patrolled.seen, patrolled.proposed
     return json.dumps({
         "dump": name,
         "blocks": seen.blocks,
@@ -157,6 +234,8 @@ def in_json(name, seen, suggested, written):
                   for j in range(CARDS) if seen.touched[j]],
         "chips": [chip_object(p, blocks_changed=seen.changed[p])
                   for p in chips_by_count(seen)],
+        "window": window_object(patrolled),
+        "proposal": None if p is None else chip_object(p),
         "suggestions": [s._asdict() for s in suggested],
         "written": {what: str(path) for what, path in written.items() if path},
     }, indent=2) + "\n"

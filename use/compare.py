@@ -1,10 +1,13 @@
-"""Compares the library's calls with second/: reference.py, registers.py, book.py.
+"""Compares the library's calls with second/: reference.py, registers.py,
+window.py, book.py.
 
-First every call with every length of every slice, and every address of the
-registers; then seeded lists of calls, register writes and hits, refused ones
-too, each from a cleared bank and registers at their start.  Every answer is
-compared, and after every entry every byte of bank, output and registers (8 to
-11 are the marks) and the interrupt.
+First every call with every length of every slice, every address of the registers
+and every sort of window; then seeded lists of calls, register writes and hits,
+refused ones too, each from a cleared bank, registers at their start and an empty
+window.  Every answer is compared, and after every entry but a hit every byte of
+bank, output, registers (8 to 11 are the marks) and window, the interrupt and the
+proposal.  A run of 100 lists or more fails if no entry had a proposal, none had
+one hidden by a mark, or at none one left the window.
 
 A difference is printed with its seed and the shortest list of entries found
 that shows it, and the exit is 1.
@@ -24,17 +27,21 @@ import library                      # noqa: E402
 import reference as ref             # noqa: E402
 import registers                    # noqa: E402
 import single                       # noqa: E402
+import window                       # noqa: E402
 from agree import (Difference, expect, expect_answer,  # noqa: E402
                    take_card_over)
 from book import Book               # noqa: E402
 from entries import next_entries    # noqa: E402
 from reference import BLOCK, RECORD  # noqa: E402
+from seen import Seen               # noqa: E402
+
+ENOUGH = 100        # lists, to see proposals come, hidden and leave
 
 
 # ------------------------------------------------------- one list of the book
 
 class Run:
-    """A bank and registers under the library, beside 01's book."""
+    """A bank, registers and a window under the library, beside 01's book."""
 
     def __init__(self, lib, blocks):
         self.lib = lib
@@ -43,15 +50,27 @@ class Run:
         self.registers = bytearray(registers.START)
         # The same four bytes: what a call is lent, and what a command uses.
         self.marks = memoryview(self.registers)[registers.MARKS]
+        self.window = bytearray(window.START)
+        self.seen = Seen()
 
     def do(self, entry):
         """One entry: a call's or hit's name and arguments, with plain bytes."""
         name, *arguments = entry
         getattr(self, "_" + name)(*arguments)
+        if name != "hit":              # in which the library has no part
+            self._compare()
+
+    def _compare(self):
+        """All that stands after an entry, and what is said of it."""
         expect("bank after it", self.bank, self.book.bank())
         expect("registers after it", self.registers, self.book.registers())
+        expect("window after it", self.window, self.book.window())
         expect("interrupt after it", self.lib.call("interrupt", self.registers),
                int(self.book.interrupt()))
+        chip = self.book.proposal()
+        expect("proposal after it", self.lib.call("propose", self.window, self.marks),
+               (0, chip))
+        self.seen.entry(self.book, chip)
 
     def _hit(self, at, value):
         self.bank[at] = value
@@ -67,7 +86,7 @@ class Run:
 
     def _get(self, k, output):
         after = bytearray(output)
-        said = self.lib.call("get", self.bank, k, self.marks, after)
+        said = self.lib.call("get", self.bank, k, self.marks, after, self.window)
         wanted, wanted_after = self.book.get(k, output)
         expect_answer("answer", said, wanted)
         expect("output after it", after, wanted_after)
@@ -87,8 +106,12 @@ class Run:
             raise Difference(f"allowed damage, but the answer is {number}")
 
     def _patrol(self, k):
-        said = self.lib.call("patrol", self.bank, k, self.marks)
+        said = self.lib.call("patrol", self.bank, k, self.marks, self.window)
         expect_answer("answer", said, self.book.patrol(k))
+
+    def _clear_window(self):
+        said = self.lib.call("clear_window", self.window)
+        expect_answer("answer", said, self.book.clear_window())
 
     def _report(self):
         said = self.lib.call("report", self.bank, self.marks)
@@ -113,7 +136,7 @@ class Run:
     def _write_register(self, address, value, output):
         after = bytearray(output)
         said = self.lib.call("write_register", self.registers, address, value,
-                             self.bank, after)
+                             self.bank, after, self.window)
         number, answer, wanted_after = self.book.write_register(
             address, value, output)
         expect("number", said, number)
@@ -175,7 +198,8 @@ def print_difference(lib, seed, number, blocks, entries):
 
 
 def run_list(lib, seed, number, entry_count):
-    """One list; gives the number of entries, or None after a difference."""
+    """One list: its number of entries and what they show, or None after a
+    difference."""
     rng = random.Random(f"{seed} {number}")
     blocks = bank_size(rng)
     run = Run(lib, blocks)
@@ -188,7 +212,7 @@ def run_list(lib, seed, number, entry_count):
             except (Difference, library.Overrun):
                 print_difference(lib, seed, number, blocks, done)
                 return None
-    return len(done)
+    return len(done), run.seen
 
 
 def one_large_list(lib, seed):
@@ -234,15 +258,19 @@ def main():
         except (Difference, library.Overrun) as difference:
             print(f"difference: --seed {args.seed}\n{difference}")
             sys.exit(1)
-        entries = 0
+        entries, seen = 0, Seen()
         for number in range(args.from_list, args.from_list + args.lists):
             made = run_list(lib, args.seed, number, args.entries)
             if made is None:
                 sys.exit(1)
-            entries += made
+            entries += made[0]
+            seen.update(made[1])
+    if args.lists >= ENOUGH and seen.lacking():
+        print(f"{args.lists} lists, but no entry " + ", none ".join(seen.lacking()))
+        sys.exit(1)
     print(f"library and second/reference.py agree: seed {args.seed}, "
           f"{calls} calls of every length and address, {args.lists} lists, "
-          f"{entries} entries, {time.monotonic() - begin:.0f} s")
+          f"{entries} entries, {seen.words()}, {time.monotonic() - begin:.0f} s")
 
 
 if __name__ == "__main__":

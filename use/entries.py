@@ -1,7 +1,8 @@
 """Seeded entries for the lists of compare.py: calls, register writes and hits.
 
 An entry is a name and arguments, with plain bytes.  Wrong lengths and numbers,
-and marks that are there or aren't, come more often than by chance.
+marks that are there or aren't, and chips that were bad before come more often
+than by chance.
 """
 
 import damage
@@ -9,7 +10,7 @@ import library
 import reference as ref
 import registers
 import single
-from reference import BLOCK, CARDS, RECORD
+from reference import BLOCK, CARDS, CHIPS, RECORD
 
 HUGE = (2 ** 64 - 1, 2 ** 64 // 45 + 1, 2 ** 63, 2 ** 32)
 
@@ -32,12 +33,28 @@ def any_number(rng, blocks, beyond=HUGE):
     return rng.choice([blocks, blocks + 1, *beyond])
 
 
+def some_chip(rng, book):
+    """Any chip, or one of the window: those that go bad do so again."""
+    return rng.choice([rng.randrange(BLOCK), *book.run[-3:]])
+
+
+def wear(rng, book):
+    """A block in which a chip or a card goes bad, read again and again: what is
+    bad there comes to be proposed, and makes others leave the window."""
+    k, chip = rng.randrange(book.blocks), some_chip(rng, book)
+    places = rng.choice([[chip], ref.card_places(chip // CHIPS)])
+    calls = rng.choice([[("get", k, any_output(rng))], on_block(rng, book, k)])
+    return [("put", k, rng.randbytes(RECORD)),
+            *(("hit", BLOCK * k + p, rng.randrange(256)) for p in places),
+            *calls, *calls[-1:] * rng.randrange(9)]
+
+
 def hits(rng, book):
     """Damage of any kind to one block as the hits that make it."""
     k = rng.randrange(book.blocks)
     held = bytearray(book.held[k])
     if rng.random() < 0.3:
-        held[rng.randrange(BLOCK)] = rng.randrange(256)
+        held[some_chip(rng, book)] = rng.randrange(256)
     else:
         damage.DAMAGE[rng.choice(list(damage.DAMAGE))](rng, held, book.in_force())
     before = book.held[k]
@@ -65,7 +82,7 @@ def mark_entry(rng, book):
     if there and rng.random() < 0.6:
         return name, rng.choice(there)
     return name, (beyond(rng, BLOCK) if rng.random() < 0.1
-                  else rng.randrange(BLOCK))
+                  else rng.choice([some_chip(rng, book), *sorted(book.often())]))
 
 
 # ---------------------------------------------------------- register writes
@@ -96,9 +113,8 @@ def with_bytes(rng, book, command, wanted):
     return [*writes, write(rng, registers.COMMAND, command)]
 
 
-def on_a_block(rng, book):
+def on_block(rng, book, k):
     """Get or patrol by command."""
-    k = any_number(rng, book.blocks, (255, 256, 1024, 65535))
     command = rng.choice([registers.GET, registers.GET, registers.PATROL])
     return with_bytes(rng, book, command,
                       {registers.LOW: k % 256, registers.HIGH: k // 256})
@@ -116,7 +132,8 @@ def register_entries(rng, book):
     what = rng.choices(["block", "mark", "enable", "acknowledge", "any"],
                        [10, 6, 1, 4, 3])[0]
     if what == "block":
-        return on_a_block(rng, book)
+        return on_block(rng, book, any_number(rng, book.blocks,
+                                              (255, 256, 1024, 65535)))
     if what == "mark":
         return on_a_mark(rng, book)
     bits = rng.choice([1, 2, 3, rng.randrange(256)])
@@ -137,8 +154,7 @@ def loose_marks(rng):
 
 def loose_bank(rng, marks):
     """A small damaged bank, sometimes cut or of a limit's length."""
-    record = marks if len(marks) == 4 else ref.FRESH
-    bank = damage.damaged_bank(rng, record, rng.choice([1, 2, 3]))
+    bank = damage.damaged_bank(rng, marks, rng.choice([1, 2, 3]))
     sort = rng.randrange(8)
     if sort == 0:
         return bank[:rng.randrange(len(bank))]
@@ -157,7 +173,9 @@ def loose_register_call(rng, name):
     address, value = any_write(rng)
     if rng.random() < 0.7:
         address, value = registers.COMMAND, rng.choice(list(registers.CALLS))
-    return held, address, value, loose_bank(rng, held[registers.MARKS]), any_output(rng)
+    marks = held[registers.MARKS]
+    return (held, address, value, loose_bank(rng, marks), any_output(rng),
+            damage.any_window(rng, marks))
 
 
 def loose_entry(rng):
@@ -171,8 +189,7 @@ def loose_entry(rng):
     if name == "store":
         return "loose", name, record, output
     if name == "read":
-        shape = marks if len(marks) == 4 else ref.FRESH
-        block = damage.damaged_block(rng, shape)
+        block = damage.damaged_block(rng, marks)
         block = (block + rng.randbytes(60))[:wrong_or(rng, BLOCK)]
         return "loose", name, block, marks, output
     if name in ("place_chip", "lift_chip", "place_card"):
@@ -181,23 +198,27 @@ def loose_entry(rng):
         return "loose", name, marks, asked
     if name == "lift_card":
         return "loose", name, marks
-    bank = loose_bank(rng, marks)
+    bank, recent = loose_bank(rng, marks), damage.any_window(rng, marks)
     k = any_number(rng, max(1, len(bank) // BLOCK))
     return ("loose", name, *{"clear": (bank,), "put": (bank, k, record),
-                             "get": (bank, k, marks, output),
-                             "patrol": (bank, k, marks),
-                             "report": (bank, marks)}[name])
+                             "get": (bank, k, marks, output, recent),
+                             "patrol": (bank, k, marks, recent),
+                             "report": (bank, marks),
+                             "clear_window": (recent,),
+                             "propose": (recent, marks)}[name])
 
 
 # -------------------------------------------------------------- the next ones
 
 def next_entries(rng, book):
     """One call, a command with its writes, or the hits of one kind of damage."""
-    what = rng.choices(["hits", "put", "get", "patrol", "report", "marks",
-                        "clear", "registers", "loose"],
-                       [20, 10, 14, 10, 3, 14, 0.4, 20, 12])[0]
+    what = rng.choices(["hits", "wear", "put", "get", "patrol", "report", "marks",
+                        "clear", "clear_window", "registers", "loose"],
+                       [20, 6, 10, 14, 10, 3, 14, 0.4, 0.4, 20, 12])[0]
     if what == "hits":
         return hits(rng, book)
+    if what == "wear":
+        return wear(rng, book)
     if what == "put":
         record = rng.randbytes(wrong_or(rng, RECORD))
         return [("put", any_number(rng, book.blocks), record)]

@@ -2,8 +2,8 @@
 
 open_library(archive) links the static archive into a shared object in a
 temporary folder and gives a Library, which makes document 01's calls and those
-of order 1's registers on bytearrays.  Every buffer is lent between guard bytes,
-which are compared after each call.
+of order 1's registers and order 2's window on bytearrays.  The slices of a call
+are lent between guard bytes, which are compared after it.
 """
 
 import contextlib
@@ -18,39 +18,46 @@ ARCHIVE = ROOT / "built" / "livomashen" / "liblivomashen.a"
 GUARD = bytes(range(0xC0, 0xD0))
 
 REGISTERS = 12                  # bytes of the registers, lent without a length
+WINDOW = 64                     # bytes of the window, likewise
 WIDEST = 2 ** 32 - 1            # of a chip, a card or an address
 
-# What read, get and patrol say, what report says, and a register read.
+# What read, get and patrol say, what report says, a register read, a proposal.
 Answer = namedtuple("Answer", "number kind card n")
 Report = namedtuple("Report", "number totals")
 Register = namedtuple("Register", "number byte")
+Proposal = namedtuple("Proposal", "number chip")
 
 _AT, _LEN = ctypes.c_void_p, ctypes.c_size_t
 _U8, _U32, _U64 = ctypes.c_uint8, ctypes.c_uint32, ctypes.c_uint64
 
 # Each call's arguments in order: "in" and "out" are lent slices, the second
-# kind may be written; "in12" and "out12" are the registers, likewise; "k" is a
-# block number, "mark" a chip's or card's number, "byte" what a register gets.
+# kind may be written; "in12" and "out12" are the registers, "in64" and "out64"
+# the window, likewise; "k" is a block number, "mark" a chip's or card's number,
+# "byte" what a register gets.
 CALLS = {
     "store": (_U32, ("in", "out")),
     "read": (_U32, ("in", "in", "out")),
     "clear": (_U32, ("out",)),
     "put": (_U32, ("out", "k", "in")),
-    "get": (_U32, ("in", "k", "in", "out")),
-    "patrol": (_U32, ("out", "k", "in")),
+    "get": (_U32, ("in", "k", "in", "out", "out64")),
+    "patrol": (_U32, ("out", "k", "in", "out64")),
     "report": (_U64, ("in", "in")),
     "place_chip": (_U32, ("out", "mark")),
     "lift_chip": (_U32, ("out", "mark")),
     "place_card": (_U32, ("out", "mark")),
     "lift_card": (_U32, ("out",)),
-    "write_register": (_U32, ("out12", "address", "byte", "out", "out")),
+    "write_register": (_U32, ("out12", "address", "byte", "out", "out", "out64")),
     "read_register": (_U32, ("in12", "address")),
     "interrupt": (_U32, ("in12",)),
+    "clear_window": (_U32, ("out64",)),
+    "propose": (_U32, ("in64", "in")),
 }
-_TYPES = {"in": (_AT, _LEN), "out": (_AT, _LEN), "in12": (_AT,), "out12": (_AT,),
-          "k": (_LEN,), "mark": (_U32,), "address": (_U32,), "byte": (_U8,)}
-_BELOW = {kind: 1 << 8 * ctypes.sizeof(types[0]) for kind, types in _TYPES.items()
-          if types[0] is not _AT}         # what a number of each kind is below
+# How many bytes a slice must have; where they may be any, their number is passed
+# along.
+_SLICES = {"in": None, "out": None, "in12": REGISTERS, "out12": REGISTERS,
+           "in64": WINDOW, "out64": WINDOW}
+_NUMBERS = {"k": _LEN, "mark": _U32, "address": _U32, "byte": _U8}
+_BELOW = {kind: 1 << 8 * ctypes.sizeof(of) for kind, of in _NUMBERS.items()}
 
 
 class Overrun(Exception):
@@ -58,44 +65,50 @@ class Overrun(Exception):
 
 
 class Beyond(ValueError):
-    """A number that the call's argument can't hold; not twelve registers."""
+    """A number that the call's argument can't hold; not twelve registers, or
+    not a window's 64 bytes."""
 
 
 class NoLibrary(SystemExit):
     """There is no archive, or it can't be loaded; the message says why."""
 
 
-class _Lent:
-    """A copy of a slice between guard bytes, for one call."""
-
-    def __init__(self, content):
-        self.content = content
-        self.whole = ctypes.create_string_buffer(
-            GUARD + bytes(content) + GUARD, len(content) + 2 * len(GUARD))
-
-    def arguments(self):
-        return ctypes.addressof(self.whole) + len(GUARD), len(self.content)
-
-    def after(self):
-        whole = self.whole.raw
-        if not (whole.startswith(GUARD) and whole.endswith(GUARD)):
-            raise Overrun("guard bytes around a slice were written")
-        return whole[len(GUARD):-len(GUARD)]
+def _types(kind):
+    if kind in _NUMBERS:
+        return (_NUMBERS[kind],)
+    return (_AT, _LEN) if _SLICES[kind] is None else (_AT,)
 
 
-class _Registers(_Lent):
-    """The twelve registers, lent without a length."""
-
-    def __init__(self, content):
-        if len(content) != REGISTERS:
-            raise Beyond(f"{len(content)} bytes are not {REGISTERS} registers")
-        super().__init__(content)
-
-    def arguments(self):
-        return super().arguments()[:1]
+def _between_guards(slices):
+    return GUARD.join((b"", *slices, b""))
 
 
-_LENT = {"in": _Lent, "out": _Lent, "in12": _Registers, "out12": _Registers}
+def _passed(kinds, arguments, at):
+    """What a call gets, where its slices stand between guards from `at` on."""
+    for kind, value in zip(kinds, arguments):
+        if kind in _NUMBERS:
+            if not 0 <= value < _BELOW[kind]:
+                raise Beyond(f"{value} does not fit an argument of the call")
+            yield value
+            continue
+        at += len(GUARD)
+        yield at
+        if _SLICES[kind] is None:
+            yield len(value)
+        elif _SLICES[kind] != len(value):
+            raise Beyond(f"{len(value)} bytes where the call takes {_SLICES[kind]}")
+        at += len(value)
+
+
+def _take_over(kinds, arguments, after):
+    """Gives the slices lent for writing their bytes after a call."""
+    at = 0
+    for kind, value in zip(kinds, arguments):
+        if kind in _SLICES:
+            at += len(GUARD)
+            if kind.startswith("out"):
+                value[:] = after[at:at + len(value)]
+            at += len(value)
 
 
 class Library:
@@ -105,28 +118,22 @@ class Library:
         for name, (result, kinds) in CALLS.items():
             function = getattr(loaded, "livomashen_" + name)
             function.restype = result
-            function.argtypes = [t for kind in kinds for t in _TYPES[kind]]
+            function.argtypes = [of for kind in kinds for of in _types(kind)]
             self._calls[name] = function, kinds
 
     def code(self, name, *arguments):
         """Makes a call; slices lent for writing get their bytes after it."""
         function, kinds = self._calls[name]
-        passed, lent = [], []
-        for kind, value in zip(kinds, arguments, strict=True):
-            if kind in _LENT:
-                lent.append((kind, _LENT[kind](value)))
-                passed += lent[-1][1].arguments()
-            elif 0 <= value < _BELOW[kind]:
-                passed.append(value)
-            else:
-                raise Beyond(f"{value} does not fit an argument of {name}")
-        code = function(*passed)
-        for kind, slice_ in lent:
-            after = slice_.after()
-            if kind in ("out", "out12"):
-                slice_.content[:] = after
-            elif after != bytes(slice_.content):
-                raise Overrun(f"{name} wrote into a slice lent for reading")
+        slices = [value for kind, value in zip(kinds, arguments, strict=True)
+                  if kind in _SLICES]
+        before = _between_guards(slices)
+        lent = ctypes.create_string_buffer(before, len(before))
+        code = function(*_passed(kinds, arguments, ctypes.addressof(lent)))
+        after = lent.raw
+        if after != before:
+            _take_over(kinds, arguments, after)
+            if after != _between_guards(slices):
+                raise Overrun(f"{name} wrote outside the slices lent for writing")
         return code
 
     def call(self, name, *arguments):
@@ -136,6 +143,8 @@ class Library:
             return Report(code & 0xFF, totals)
         if name == "read_register":
             return Register(code & 0xFF, code >> 8)
+        if name == "propose":
+            return Proposal(code & 0xFF, code >> 8)
         if name in ("write_register", "interrupt"):
             return code
         return Answer(*(code >> at & 0xFF for at in (0, 8, 16, 24)))

@@ -1,15 +1,16 @@
 """Single calls on bytes of their own, the library's against second/.
 
 Every length of every slice, every number of a chip or card, every address and
-value of a register, and the interrupt's bits.
+value of a register, the interrupt's bits, and windows of every sort.
 """
 
 import damage
 import library
 import reference as ref
 import registers
+import window
 from agree import Difference, expect, expect_answer, take_card_over
-from reference import BLOCK, RECORD
+from reference import BLOCK, CHIPS, RECORD
 
 SHORT = range(100)                        # lengths of a slice
 LARGEST = BLOCK * ref.MOST_BLOCKS         # 46,080
@@ -41,23 +42,27 @@ def ref_read(block, marks, output):
         marks, causes, lambda: ref.read_into(output, block, marks))
 
 
-def ref_get(bank, k, marks, output):
+def ref_get(bank, k, marks, output, recent):
     causes = (ref.length_cause(output, BLOCK, 2), ref.bank_cause(bank),
               ref.number_cause(bank, k))
     return lowest_with_marks(
-        marks, causes, lambda: ref.get(bank, k, output, marks))
+        marks, causes, lambda: window.get(bank, k, output, marks, recent))
 
 
-def ref_patrol(bank, k, marks):
+def ref_patrol(bank, k, marks, recent):
     causes = (ref.bank_cause(bank), ref.number_cause(bank, k))
     return lowest_with_marks(
-        marks, causes, lambda: ref.patrol(bank, k, marks))
+        marks, causes, lambda: window.patrol(bank, k, marks, recent))
 
 
 def ref_report(bank, marks):
     if len(marks) == 4:
         return ref.report(bank, marks)
     return ref.Answer(ref.lowest(ref.bank_cause(bank), 6)), None
+
+
+def ref_propose(recent, marks):
+    return window.propose(recent, marks) if len(marks) == 4 else (6, 0)
 
 
 REFERENCE = {
@@ -75,6 +80,8 @@ REFERENCE = {
     "write_register": registers.write,
     "read_register": registers.read,
     "interrupt": lambda held: int(registers.interrupt(held)),
+    "clear_window": window.clear,
+    "propose": ref_propose,
 }
 
 
@@ -113,23 +120,25 @@ def every_length(lib, name, arguments, at, lengths):
 
 
 def lengths_of_calls(lib, rng):
-    """Every length of each slice of 01's calls, the others being right."""
+    """Every length of each slice of the calls, the others being right."""
     block = damage.damaged_block(rng, ref.FRESH, "one_bad_chip")
     record, marks = rng.randbytes(RECORD), ref.FRESH
     out, bank = rng.randbytes(BLOCK), block + bytes(BLOCK)
+    recent = damage.any_window(rng, marks, "full_window")
     made = 0
     for name, arguments in (("store", (record, out)),
                             ("read", (block, marks, out)),
                             ("clear", (bank,)), ("put", (bank, 0, record)),
-                            ("get", (bank, 0, marks, out)),
-                            ("patrol", (bank, 0, marks)),
+                            ("get", (bank, 0, marks, out, recent)),
+                            ("patrol", (bank, 0, marks, recent)),
                             ("report", (bank, marks)),
+                            ("propose", (recent, marks)),
                             ("place_chip", (marks, 0)),
                             ("lift_chip", (marks, 0)),
                             ("place_card", (marks, 0)),
                             ("lift_card", (marks,))):
         for at, argument in enumerate(arguments):
-            if isinstance(argument, bytes):
+            if isinstance(argument, bytes) and argument is not recent:
                 made += every_length(lib, name, arguments, at, SHORT)
             if argument is bank:
                 made += every_length(lib, name, arguments, at,
@@ -159,13 +168,15 @@ def some_registers(rng):
 def register_addresses(lib, rng):
     """Each address, read and written; every value where there is a register."""
     bank, out = damage.damaged_bank(rng, ref.FRESH, 3), rng.randbytes(BLOCK)
+    recent = damage.any_window(rng, ref.FRESH)
     made = 0
     for held in some_registers(rng):
         for address in ADDRESSES:
             compare_call(lib, "read_register", held, address)
             values = range(256) if address < registers.SIZE else VALUES
             for value in values:
-                compare_call(lib, "write_register", held, address, value, bank, out)
+                compare_call(lib, "write_register", held, address, value, bank, out,
+                             recent)
             made += 1 + len(values)
     return made
 
@@ -174,7 +185,7 @@ def register_lengths(lib, rng):
     """Every length of bank and output behind each command and a plain write."""
     block = damage.damaged_block(rng, ref.FRESH, "one_bad_chip")
     bank, out = block + bytes(BLOCK), rng.randbytes(BLOCK)
-    marked = bytes(8) + bytes((0, 1, 0, 255))
+    marked, recent = bytes(8) + bytes((0, 1, 0, 255)), bytes(range(window.SIZE))
     made = 0
     for address, value, held in ((0, registers.GET, registers.START),
                                  (0, registers.PATROL, registers.START),
@@ -183,7 +194,7 @@ def register_lengths(lib, rng):
                                  (0, registers.LIFT_CHIP, marked),
                                  (0, registers.LIFT_CARD, marked),
                                  (registers.LOW, 9, registers.START)):
-        arguments = held, address, value, bank, out
+        arguments = held, address, value, bank, out, recent
         made += every_length(lib, "write_register", arguments, 3, SHORT)
         made += every_length(lib, "write_register", arguments, 3,
                              AROUND_THE_LARGEST)
@@ -199,7 +210,7 @@ def register_block_numbers(lib, rng):
         held = bytes((0, low, high, 0, 0, 0, 0, 0)) + ref.FRESH
         for command in (registers.GET, registers.PATROL):
             compare_call(lib, "write_register", held, 0, command, bank,
-                         rng.randbytes(BLOCK))
+                         rng.randbytes(BLOCK), window.START)
     return 2 * len(numbers)
 
 
@@ -214,8 +225,56 @@ def interrupt_bits(lib, rng):
     return len(values) ** 2
 
 
+# ------------------------------------------------------------------- windows
+
+def around_four(lib):
+    """Each chip up to five times beside one of another card, at the window's end
+    and at its start, with each of the two marked or its card, or none."""
+    made = 0
+    for chip in range(BLOCK):
+        other = (chip + CHIPS) % BLOCK
+        records = [bytes(record) for record in (
+            ref.FRESH, (255, 1, chip, 255), (255, 1, other, 255),
+            (255, 2, other, chip), (255, 2, chip, other),
+            (chip // CHIPS, 0, 255, 255), (other // CHIPS, 0, 255, 255),
+            (chip // CHIPS, 1, other, 255))]
+        for count in range(6):
+            run = bytes((chip,) * count + (other,) * 4)
+            rest = window.START[len(run):]
+            for record in records:
+                compare_call(lib, "propose", rest + run, record)
+                compare_call(lib, "propose", run + rest, record)
+            made += 2 * len(records)
+    return made
+
+
+def windows(lib, rng):
+    """Each sort of window with each shape of marks and each kind of damage, by the
+    calls that take it."""
+    made = 0
+    for sort in damage.WINDOWS:
+        for shape in damage.MARK_SHAPES.values():
+            marks = bytes(shape(rng))
+            recent = damage.any_window(rng, marks, sort)
+            compare_call(lib, "propose", recent, marks)
+            compare_call(lib, "clear_window", recent)
+            made += 2
+        for kind in damage.DAMAGE:
+            marks, out = damage.any_marks(rng), rng.randbytes(BLOCK)
+            recent = damage.any_window(rng, marks, sort)
+            bank = damage.damaged_block(rng, marks, kind)
+            compare_call(lib, "get", bank, 0, marks, out, recent)
+            compare_call(lib, "patrol", bank, 0, marks, recent)
+            for command in registers.CALLS:
+                compare_call(lib, "write_register", bytes(8) + marks, 0, command,
+                             bank, out, recent)
+            made += 2 + len(registers.CALLS)
+    return made
+
+
 def compare_all(lib, rng):
     """All of the above; gives how many calls were made."""
     return (lengths_of_calls(lib, rng) + mark_numbers(lib)
             + register_addresses(lib, rng) + register_lengths(lib, rng)
-            + register_block_numbers(lib, rng) + interrupt_bits(lib, rng))
+            + register_block_numbers(lib, rng) + interrupt_bits(lib, rng)
+            + around_four(lib) + windows(lib, rng))

@@ -1,24 +1,33 @@
 """use/compare.py, library.py and check_plain.py: their options, what they refuse,
 and that they find a fault."""
 
+import contextlib
+import io
+import random
 import re
 import sys
 import unittest
+from unittest import mock
 
 import library
 from kit import ARCHIVE, C_FLAGS, KIT, ROOT, InFolder, needs, run, try_run
 
+import compare as comparison     # which finds second/ for single.py too
+import mistakes
+import single
+
 COMPARE = ROOT / "use" / "compare.py"
 CHECK_PLAIN = ROOT / "use" / "rust" / "check_plain.py"
+LISTS = 150         # in which a mistake with the window must be found
 
 # A patrol of block 1 of 2 that also writes into block 0.
 IN_PATROL = """
 #include "livomashen.h"
-uint32_t real_patrol(uint8_t *, size_t, size_t, const uint8_t *, size_t);
+uint32_t real_patrol(uint8_t *, size_t, size_t, const uint8_t *, size_t, uint8_t *);
 uint32_t livomashen_patrol(uint8_t *bank, size_t bank_len, size_t k,
-                           const uint8_t *marks, size_t marks_len)
+                           const uint8_t *marks, size_t marks_len, uint8_t *window)
 {
-    uint32_t code = real_patrol(bank, bank_len, k, marks, marks_len);
+    uint32_t code = real_patrol(bank, bank_len, k, marks, marks_len, window);
     if (bank_len == 90 && k == 1 && (code & 0xFFu) == 0)
         bank[7] ^= 1;
     return code;
@@ -29,17 +38,38 @@ uint32_t livomashen_patrol(uint8_t *bank, size_t bank_len, size_t k,
 IN_COMMAND = """
 #include "livomashen.h"
 uint32_t real_write_register(uint8_t *, uint32_t, uint8_t, uint8_t *, size_t,
-                             uint8_t *, size_t);
+                             uint8_t *, size_t, uint8_t *);
 uint32_t livomashen_write_register(uint8_t *registers, uint32_t address,
                                    uint8_t value, uint8_t *bank, size_t bank_len,
-                                   uint8_t *out, size_t out_len)
+                                   uint8_t *out, size_t out_len, uint8_t *window)
 {
     uint32_t number = real_write_register(registers, address, value, bank,
-                                          bank_len, out, out_len);
+                                          bank_len, out, out_len, window);
     if (number == 0 && address == 0 && value == 1 && registers[4] < 3
         && bank_len == 315)
         registers[7] &= 0xFDu;
     return number;
+}
+"""
+
+# A proposal that writes one byte, which one it is told by the first of the marks.
+IN_PROPOSE = """
+#include "livomashen.h"
+uint32_t livomashen_propose(const uint8_t *window, const uint8_t *marks,
+                            size_t marks_len)
+{
+    uint8_t *bytes = (uint8_t *)window;
+    if (marks[0] == 0)
+        bytes[-1] = 1;
+    if (marks[0] == 1)
+        bytes[0] = 1;
+    if (marks[0] == 2)
+        bytes[LIVOMASHEN_WINDOW] = 1;
+    if (marks[0] == 3)
+        ((uint8_t *)marks)[marks_len - 1] = 1;
+    if (marks[0] == 4)
+        ((uint8_t *)marks)[marks_len] = 1;
+    return 0;
 }
 """
 
@@ -48,7 +78,7 @@ def compare(*options):
     return try_run(sys.executable, "-B", COMPARE, *options)
 
 
-class Compare(InFolder):
+class WithFaults(InFolder):
     def faulty(self, call, fault):
         """The archive with a call that makes the real one and then errs."""
         made, source = self.folder / "faulty.a", self.folder / "fault.c"
@@ -59,6 +89,8 @@ class Compare(InFolder):
         run("ar", "r", made, self.folder / "fault.o")
         return made
 
+
+class Compare(WithFaults):
     def test_every_option(self):
         done = compare("--library", ARCHIVE, "--seed", 5, "--lists", 3,
                        "--from-list", 10, "--entries", 20)
@@ -98,20 +130,115 @@ class Compare(InFolder):
         self.assertEqual(done.returncode, 1)
         self.assertIn("none.a is not there", done.stderr)
 
+    def test_proposals_come_are_hidden_and_leave(self):
+        done = compare("--library", ARCHIVE, "--lists", comparison.ENOUGH)
+        self.assertEqual(done.returncode, 0, done.stdout)
+        found = re.search(r"entries, (\d+) with a proposal, (\d+) with one hidden by "
+                          r"a mark, (\d+) at which one left the window, ", done.stdout)
+        self.assertNotIn("0", found.groups())
 
-class Library(unittest.TestCase):
-    def test_registers_are_twelve_and_values_bytes(self):
+    def run_of(self, lists, *entries):
+        """The exit and what is printed, where each list has these entries alone."""
+        words = ["compare", "--library", str(ARCHIVE), "--lists", str(lists),
+                 "--entries", "1"]
+        with mock.patch.object(sys, "argv", words), \
+                mock.patch.object(single, "compare_all", return_value=0), \
+                mock.patch.object(comparison, "next_entries", return_value=entries), \
+                contextlib.redirect_stdout(io.StringIO()) as said:
+            try:
+                comparison.main()
+            except SystemExit as ended:
+                return ended.code, said.getvalue()
+        return 0, said.getvalue()
+
+    def test_many_lists_without_proposals_do_not_pass(self):
+        four_times = ("hit", 20, 7), *[("get", 0, bytes(45))] * 4
+        self.assertEqual(self.run_of(100, ("report",)), (
+            1, "100 lists, but no entry with a proposal, none with one hidden by a "
+            "mark, none at which one left the window\n"))
+        self.assertEqual(self.run_of(100, *four_times), (
+            1, "100 lists, but no entry with one hidden by a mark, none at which one "
+            "left the window\n"))
+        for entries, shown in ((("report",),), "0"), (four_times, "99"):
+            ended, said = self.run_of(99, *entries)
+            self.assertEqual(ended, 0)
+            self.assertIn(f" entries, {shown} with a proposal, 0 with ", said)
+
+
+class WindowMistakes(unittest.TestCase):
+    def setUp(self):
+        opened = library.open_library(ARCHIVE)
+        self.lib = opened.__enter__()
+        self.addCleanup(opened.__exit__, None, None, None)
+
+    def found_by_lists(self, mistake):
+        with contextlib.redirect_stdout(io.StringIO()) as said:
+            lib = mistakes.Mistaken(self.lib, mistake)
+            agree = all(comparison.run_list(lib, 1, number, 120)
+                        for number in range(LISTS))
+        self.assertEqual("difference: --seed 1, list " in said.getvalue(), not agree)
+        return not agree
+
+    def found_by_single_calls(self, mistake):
+        lib = mistakes.Mistaken(self.lib, mistake)
+        try:
+            single.windows(lib, random.Random(1))
+            single.around_four(lib)
+        except single.Difference:
+            return True
+        return False
+
+    def test_each_is_found(self):
+        self.assertFalse(self.found_by_lists(mistakes.NO_MISTAKE))
+        self.assertFalse(self.found_by_single_calls(mistakes.NO_MISTAKE))
+        for what, mistake in {**mistakes.PROPOSED, **mistakes.ADDED}.items():
+            with self.subTest(what):
+                self.assertTrue(self.found_by_lists(mistake))
+                self.assertTrue(self.found_by_single_calls(mistake))
+        for what, mistake in mistakes.BETWEEN_CALLS.items():
+            with self.subTest(what):
+                self.assertTrue(self.found_by_lists(mistake))
+
+
+class Library(WithFaults):
+    def test_registers_are_twelve_windows_64_and_values_bytes(self):
         part, start = bytearray(45), bytearray(library.REGISTERS)
+        recent = bytearray(library.WINDOW)
         with library.open_library(ARCHIVE) as lib:
-            for length in (0, 11, 13):
-                for call, *more in (("interrupt",), ("read_register", 0),
-                                    ("write_register", 1, 9, part, part)):
-                    with self.assertRaises(library.Beyond):
-                        lib.call(call, bytearray(length), *more)
-            for address, value in ((2 ** 32, 0), (-1, 0), (1, 256), (1, -1)):
+            def beyond(*call):
                 with self.assertRaises(library.Beyond):
-                    lib.call("write_register", start, address, value, part, part)
-            self.assertEqual(start, bytes(library.REGISTERS))
+                    lib.call(*call)
+
+            for wrong in map(bytearray, (0, 11, 13)):
+                beyond("interrupt", wrong)
+                beyond("read_register", wrong, 0)
+                beyond("write_register", wrong, 1, 9, part, part, recent)
+            for wrong in map(bytearray, (0, 63, 65)):
+                beyond("propose", wrong, part)
+                beyond("clear_window", wrong)
+                beyond("get", part, 0, part, part, wrong)
+                beyond("patrol", part, 0, part, wrong)
+                beyond("write_register", start, 1, 9, part, part, wrong)
+            for address, value in ((2 ** 32, 0), (-1, 0), (1, 256), (1, -1)):
+                beyond("write_register", start, address, value, part, part, recent)
+        self.assertEqual(start + recent, bytes(library.REGISTERS + library.WINDOW))
+
+    @needs("gcc", "objcopy", "ar")
+    def test_a_byte_that_must_not_change(self):
+        with library.open_library(self.faulty("propose", IN_PROPOSE)) as lib:
+            for which in range(5):
+                with self.assertRaises(library.Overrun):
+                    lib.call("propose", bytearray(64), bytearray((which, 0, 0, 0)))
+            lib.call("propose", bytearray(64), bytearray((5, 0, 0, 0)))
+
+    def test_what_the_window_s_calls_say(self):
+        recent, fresh = bytearray((9, 9, 9, 7) * 16), bytearray((255, 0, 255, 255))
+        with library.open_library(ARCHIVE) as lib:
+            self.assertEqual(lib.call("propose", recent, fresh), (0, 7))
+            self.assertEqual(lib.call("propose", recent, fresh[:3]), (6, 0))
+            self.assertEqual(lib.call("clear_window", recent), (0, 0, 0, 0))
+            self.assertEqual(lib.call("propose", recent, fresh), (0, 255))
+        self.assertEqual(recent, b"\xFF" * 64)
 
     def test_what_the_register_calls_say(self):
         held = bytearray((9, 8, 7, 6, 5, 4, 3, 2, 255, 0, 255, 255))
@@ -120,7 +247,7 @@ class Library(unittest.TestCase):
             self.assertEqual(lib.call("read_register", held, 12), (12, 0))
             self.assertEqual(lib.call("interrupt", held), 1)
             self.assertEqual(lib.call("write_register", held, 7, 2, bytearray(),
-                                      bytearray()), 0)
+                                      bytearray(), bytearray(64)), 0)
             self.assertEqual(lib.call("interrupt", held), 0)
         self.assertEqual(held[7], 0)
 

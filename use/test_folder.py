@@ -9,7 +9,9 @@ from kit import ARCHIVE, C_FLAGS, KIT, ROOT, InFolder, needs, run, try_run
 
 WHOLE = {"liblivomashen.a", "livomashen.h", "livomashen.pc", "livomashen.3",
          "cabinet.1", "inspect.1", "DATA-SHEET.md", "example.c", "registers.c",
-         "Cargo.toml", "build.rs", "src/lib.rs", "src/livomashen.rs"}
+         "Cargo.toml", "build.rs", "src/lib.rs", "src/livomashen.rs",
+         *(f"src/livomashen/{part}.rs"
+           for part in ("raw", "refusal", "registers", "window"))}
 
 
 def version():
@@ -44,7 +46,7 @@ class Folder(InFolder):
 
     @needs("gcc")
     def test_the_examples_where_they_lie(self):
-        for name, line in (("example", "card 1, 9 bytes changed"),
+        for name, line in (("example", "chip 31 is proposed"),
                            ("registers", "report: clean 300 of 300")):
             run("gcc", *C_FLAGS, "-I.", f"{name}.c", "-L.", "-llivomashen", "-o",
                 name, cwd=self.kit)
@@ -79,7 +81,7 @@ class Folder(InFolder):
         said = run("cargo", "run", "--offline", "--quiet", cwd=project,
                    CARGO_TARGET_DIR=str(self.folder / "target"),
                    RUSTFLAGS="-D warnings")
-        self.assertEqual(said, "4 of 4 clean\n")
+        self.assertEqual(said, "4 of 4 clean\nchip 31 is proposed after 4 times\n")
 
 
 class Installed(InFolder):
@@ -98,7 +100,7 @@ class Installed(InFolder):
         self.assertEqual((prefix / "lib/liblivomashen.a").read_bytes(),
                          ARCHIVE.read_bytes())
         pages = {name for name in found if re.search(r"man3/livomashen_\w+\.3$", name)}
-        self.assertEqual(len(pages), 14)
+        self.assertEqual(len(pages), 16)
         self.assertEqual(names(into), WHOLE)
 
     @needs("man")
@@ -106,7 +108,8 @@ class Installed(InFolder):
         prefix = self.folder / "prefix"
         run(ROOT / "use" / "build", "--library", ARCHIVE, "--into",
             self.folder / "into", "--prefix", prefix)
-        for call in ("livomashen_patrol", "livomashen_write_register"):
+        for call in ("livomashen_patrol", "livomashen_write_register",
+                     "livomashen_clear_window", "livomashen_propose"):
             said = run("man", "-M", prefix / "share" / "man", call)
             self.assertIn("five memory cards", " ".join(said.split()))
 

@@ -6,8 +6,8 @@
 //!   bench list              the cases, and the codecs that are linked
 //!
 //! Built by use/bench/run, with --cfg library and --cfg libfec where the two
-//! are at hand.  Each codec has the same five C functions; callgrind counts
-//! what runs inside them and nothing else.
+//! are at hand.  Each codec has the same C functions; callgrind counts what runs
+//! inside them and nothing else.
 
 #[cfg(library)]
 #[allow(dead_code)] // the benchmark calls the C functions alone
@@ -29,7 +29,7 @@ mod fec;
 mod plainly;
 
 use cases::{Case, Input, What, CASES, NO_MARKS};
-use codecs::{codecs, Codec};
+use codecs::{codecs, Codec, Window};
 use random::Random;
 use std::hint::black_box;
 use std::time::Instant;
@@ -42,13 +42,19 @@ struct Ready<'a> {
     codec: &'a Codec,
     what: What,
     inputs: Vec<Input>,
-    /// The damaged blocks one after the other.
+    /// The damaged blocks one after the other; and as they were, since a patrol
+    /// mends them.
     bank: Vec<u8>,
+    damaged: Vec<u8>,
+    /// What gets and patrols add to.
+    window: Window,
+    /// For each input of a proposal, a full window.
+    windows: Vec<Window>,
 }
 
 fn ready<'a>(case: &Case, codec: &'a Codec) -> Ready<'a> {
     // The seed is the case's alone, so that every codec gets the same.
-    let mut rng = Random(case.name.bytes().map(u64::from).sum());
+    let mut rng = Random(case.seed.bytes().map(u64::from).sum());
     let mut inputs = Vec::new();
     let mut bank = vec![0; BLOCK * case.inputs];
     for block in bank.chunks_exact_mut(BLOCK) {
@@ -67,17 +73,40 @@ fn ready<'a>(case: &Case, codec: &'a Codec) -> Ready<'a> {
             marks,
         });
     }
+    let proposals = match case.what {
+        What::Propose => case.inputs,
+        _ => 0,
+    };
+    let windows = (0..proposals).map(|_| full_window(&mut rng)).collect();
     Ready {
         codec,
         what: case.what,
         inputs,
+        damaged: bank.clone(),
         bank,
+        window: [255; 64],
+        windows,
     }
+}
+
+fn full_window(rng: &mut Random) -> Window {
+    std::array::from_fn(|_| rng.below(BLOCK) as u8)
+}
+
+/// The lowest position that is there four times, or 255.
+fn to_propose(window: &Window) -> u8 {
+    let often = |&p: &u8| window.iter().filter(|&&held| held == p).count() >= 4;
+    (0..BLOCK as u8).find(often).unwrap_or(255)
 }
 
 impl Ready<'_> {
     fn block(&self, k: usize) -> &[u8] {
         &self.bank[BLOCK * k..BLOCK * (k + 1)]
+    }
+
+    /// Puts the damage back that patrols have mended.
+    fn damage_again(&mut self) {
+        self.bank.copy_from_slice(&self.damaged);
     }
 
     /// Makes every call once.  The output is used again, never cleared.
@@ -96,8 +125,17 @@ impl Ready<'_> {
         let input = &self.inputs[k];
         match self.what {
             What::Store => self.codec.store(black_box(&input.record), out),
-            What::Get => self.codec.get(black_box(&self.bank), k, &input.marks, out),
-            What::Patrol => self.codec.patrol(&mut self.bank, k, &input.marks),
+            What::Get => {
+                let bank = black_box(&self.bank);
+                self.codec.get(bank, k, &input.marks, out, &mut self.window)
+            }
+            What::Patrol => {
+                let (bank, window) = (&mut self.bank, &mut self.window);
+                self.codec.patrol(bank, k, &input.marks, window)
+            }
+            What::Propose => self
+                .codec
+                .propose(black_box(&self.windows[k]), &input.marks),
             _ => self.codec.read(black_box(self.block(k)), &input.marks, out),
         }
     }
@@ -112,13 +150,34 @@ impl Ready<'_> {
         }
         for k in 0..self.inputs.len() {
             let mut out = [0; BLOCK];
-            let number = self.call(k, &mut out) & 0xFF;
+            let code = self.call(k, &mut out);
+            let number = code & 0xFF;
             match self.what {
                 What::ReadAny => {}
                 What::ReadNone => assert_eq!(number, 10, "{}: {k}", self.codec.name),
+                What::Propose => {
+                    let chip = to_propose(&self.windows[k]) as u32;
+                    assert_eq!(code, chip << 8, "{}: {k}", self.codec.name);
+                }
                 _ => self.check_done(k, number, &out),
             }
         }
+        self.check_window();
+    }
+
+    /// The last of the changed positions are in the window.
+    fn check_window(&self) {
+        let added = match self.what {
+            What::Get | What::Patrol => &self.inputs[..],
+            _ => &[],
+        };
+        let mut run = vec![255; 64];
+        for input in added {
+            let changed = (0..BLOCK).filter(|&p| input.damage[p] != 0);
+            run.extend(changed.map(|p| p as u8));
+        }
+        let wanted = &run[run.len() - 64..];
+        assert_eq!(self.window, wanted, "{}: window", self.codec.name);
     }
 
     /// The call is not refused, and the block it gives is the one put.
@@ -133,8 +192,7 @@ impl Ready<'_> {
         if self.what == What::Store {
             return;
         }
-        let restored: Vec<u8> = self
-            .block(k)
+        let restored: Vec<u8> = self.damaged[BLOCK * k..BLOCK * (k + 1)]
             .iter()
             .zip(input.damage)
             .map(|(a, b)| a ^ b)
@@ -144,7 +202,11 @@ impl Ready<'_> {
 }
 
 fn takes_part(case: &Case, codec: &Codec) -> bool {
-    codec.name != "fec" || !matches!(case.what, What::ReadAny | What::ReadNone)
+    match case.what {
+        What::ReadAny | What::ReadNone => codec.name != "fec",
+        What::Propose => codec.propose.is_some(),
+        _ => true,
+    }
 }
 
 // ----------------------------------------------------------------------- times
@@ -169,6 +231,7 @@ fn times() {
         let mut out = [0; BLOCK];
         for _ in 0..ROUNDS {
             for (run, taken) in &mut runs {
+                run.damage_again();
                 let begin = Instant::now();
                 run.once(&mut out);
                 taken.push(begin.elapsed().as_nanos() as f64 / case.inputs as f64);

@@ -23,6 +23,8 @@ pub enum What {
     ReadNone,
     Get,
     Patrol,
+    /// A proposal from a full window; libfec has none.
+    Propose,
     /// One report over clean blocks; times and counts are for a block.
     Report,
 }
@@ -35,6 +37,7 @@ impl What {
             What::Read | What::ReadAny | What::ReadNone => "read",
             What::Get => "get",
             What::Patrol => "patrol",
+            What::Propose => "propose",
             What::Report => "report",
         }
     }
@@ -42,6 +45,8 @@ impl What {
 
 pub struct Case {
     pub name: &'static str,
+    /// Cases with the same seed have the same inputs.
+    pub seed: &'static str,
     pub what: What,
     pub inputs: usize,
     pub make: Make,
@@ -131,18 +136,29 @@ type Make = fn(&mut Random) -> ([u8; BLOCK], [u8; 4]);
 const fn case(name: &'static str, what: What, inputs: usize, make: Make) -> Case {
     Case {
         name,
+        seed: name,
         what,
         inputs,
         make,
     }
 }
 
-pub const CASES: [Case; 13] = [
+/// The inputs of "read-chip", so that what the window costs is seen beside it.
+const fn chip_case(name: &'static str, what: What) -> Case {
+    Case {
+        seed: "read-chip",
+        ..case(name, what, INPUTS, one_chip)
+    }
+}
+
+pub const CASES: [Case; 16] = [
     case("store", What::Store, INPUTS, nothing),
     case("read-clean", What::Read, INPUTS, nothing),
     case("get-clean", What::Get, INPUTS, nothing),
     case("patrol-clean", What::Patrol, INPUTS, nothing),
-    case("read-chip", What::Read, INPUTS, one_chip),
+    chip_case("read-chip", What::Read),
+    chip_case("get-chip", What::Get),
+    chip_case("patrol-chip", What::Patrol),
     case("read-card", What::Read, INPUTS, one_card),
     case(
         "read-marked-card-and-chip",
@@ -158,6 +174,7 @@ pub const CASES: [Case; 13] = [
     ),
     case("read-none", What::ReadNone, INPUTS, two_chips_of_two_cards),
     case("read-any", What::ReadAny, 8192, anything),
+    case("propose", What::Propose, INPUTS, nothing),
     case("patrol-1024", What::Patrol, 1024, nothing),
     case("report-256", What::Report, 256, nothing),
     case("report-1024", What::Report, 1024, nothing),

@@ -1,4 +1,4 @@
-//! The three codecs of the benchmark, each as the same five C functions.
+//! The three codecs of the benchmark, each as the same C functions.
 
 #[cfg(libfec)]
 use crate::fec;
@@ -8,9 +8,14 @@ use crate::plainly;
 
 type Store = unsafe extern "C" fn(*const u8, usize, *mut u8, usize) -> u32;
 type Read = unsafe extern "C" fn(*const u8, usize, *const u8, usize, *mut u8, usize) -> u32;
-type Get = unsafe extern "C" fn(*const u8, usize, usize, *const u8, usize, *mut u8, usize) -> u32;
-type Patrol = unsafe extern "C" fn(*mut u8, usize, usize, *const u8, usize) -> u32;
+type Get =
+    unsafe extern "C" fn(*const u8, usize, usize, *const u8, usize, *mut u8, usize, *mut u8) -> u32;
+type Patrol = unsafe extern "C" fn(*mut u8, usize, usize, *const u8, usize, *mut u8) -> u32;
+type Propose = unsafe extern "C" fn(*const u8, *const u8, usize) -> u32;
 type Report = unsafe extern "C" fn(*const u8, usize, *const u8, usize) -> u64;
+
+/// The last 64 changed positions, at its end.
+pub type Window = [u8; 64];
 
 pub struct Codec {
     pub name: &'static str,
@@ -18,6 +23,8 @@ pub struct Codec {
     read: Read,
     get: Get,
     patrol: Patrol,
+    /// libfec has none.
+    pub propose: Option<Propose>,
     report: Report,
 }
 
@@ -31,14 +38,27 @@ impl Codec {
         unsafe { (self.read)(b, block.len(), m, marks.len(), o, out.len()) }
     }
 
-    pub fn get(&self, bank: &[u8], k: usize, marks: &[u8], out: &mut [u8]) -> u32 {
+    pub fn get(
+        &self,
+        bank: &[u8],
+        k: usize,
+        marks: &[u8],
+        out: &mut [u8],
+        window: &mut Window,
+    ) -> u32 {
         let (b, m, o) = (bank.as_ptr(), marks.as_ptr(), out.as_mut_ptr());
-        unsafe { (self.get)(b, bank.len(), k, m, marks.len(), o, out.len()) }
+        let w = window.as_mut_ptr();
+        unsafe { (self.get)(b, bank.len(), k, m, marks.len(), o, out.len(), w) }
     }
 
-    pub fn patrol(&self, bank: &mut [u8], k: usize, marks: &[u8]) -> u32 {
-        let (b, m) = (bank.as_mut_ptr(), marks.as_ptr());
-        unsafe { (self.patrol)(b, bank.len(), k, m, marks.len()) }
+    pub fn patrol(&self, bank: &mut [u8], k: usize, marks: &[u8], window: &mut Window) -> u32 {
+        let (b, m, w) = (bank.as_mut_ptr(), marks.as_ptr(), window.as_mut_ptr());
+        unsafe { (self.patrol)(b, bank.len(), k, m, marks.len(), w) }
+    }
+
+    pub fn propose(&self, window: &Window, marks: &[u8]) -> u32 {
+        let propose = self.propose.expect("a codec that proposes");
+        unsafe { propose(window.as_ptr(), marks.as_ptr(), marks.len()) }
     }
 
     pub fn report(&self, bank: &[u8], marks: &[u8]) -> u64 {
@@ -55,6 +75,7 @@ pub fn codecs() -> Vec<Codec> {
             read: raw::livomashen_read,
             get: raw::livomashen_get,
             patrol: raw::livomashen_patrol,
+            propose: Some(raw::livomashen_propose),
             report: raw::livomashen_report,
         },
         Codec {
@@ -63,6 +84,7 @@ pub fn codecs() -> Vec<Codec> {
             read: plainly::plain_read,
             get: plainly::plain_get,
             patrol: plainly::plain_patrol,
+            propose: Some(plainly::plain_propose),
             report: plainly::plain_report,
         },
         #[cfg(libfec)]
@@ -72,6 +94,7 @@ pub fn codecs() -> Vec<Codec> {
             read: fec::fec_read,
             get: fec::fec_get,
             patrol: fec::fec_patrol,
+            propose: None,
             report: fec::fec_report,
         },
     ]

@@ -1,6 +1,7 @@
 //! libfec's RS(45,34) over the same field, used as a programmer would for this
 //! memory: marks are erasures, and an unknown card is sought by erasing each.
 
+use crate::plain::window::add;
 use crate::{BLOCK, RECORD};
 use std::ffi::c_void;
 use std::slice::from_raw_parts;
@@ -115,6 +116,17 @@ pub unsafe extern "C" fn fec_read(
     }
 }
 
+/// Adds what was changed to the window, as plain.rs does.
+unsafe fn note(window: *mut u8, block: *const u8, out: *const u8) {
+    unsafe {
+        add(
+            &mut *window.cast(),
+            from_raw_parts(block, BLOCK),
+            from_raw_parts(out, BLOCK),
+        );
+    }
+}
+
 #[no_mangle]
 #[inline(never)]
 pub unsafe extern "C" fn fec_get(
@@ -125,8 +137,16 @@ pub unsafe extern "C" fn fec_get(
     marks_len: usize,
     out: *mut u8,
     out_len: usize,
+    window: *mut u8,
 ) -> u32 {
-    unsafe { fec_read(bank.add(BLOCK * k), BLOCK, marks, marks_len, out, out_len) }
+    unsafe {
+        let block = bank.add(BLOCK * k);
+        let said = fec_read(block, BLOCK, marks, marks_len, out, out_len);
+        if said == 0 {
+            note(window, block, out);
+        }
+        said
+    }
 }
 
 #[no_mangle]
@@ -137,12 +157,14 @@ pub unsafe extern "C" fn fec_patrol(
     k: usize,
     marks: *const u8,
     marks_len: usize,
+    window: *mut u8,
 ) -> u32 {
     let mut out = [0; BLOCK];
     unsafe {
         let block = bank.add(BLOCK * k);
         let said = fec_read(block, BLOCK, marks, marks_len, out.as_mut_ptr(), BLOCK);
         if said == 0 {
+            note(window, block, out.as_ptr());
             std::ptr::copy_nonoverlapping(out.as_ptr(), block, BLOCK);
         }
         said

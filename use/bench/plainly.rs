@@ -1,6 +1,6 @@
 //! plain.rs as C functions of the library's shape.
 
-use crate::{plain, BLOCK};
+use crate::plain;
 use std::slice::{from_raw_parts, from_raw_parts_mut};
 
 /// An answer as the library's code.
@@ -62,18 +62,17 @@ pub unsafe extern "C" fn plain_get(
     marks_len: usize,
     out: *mut u8,
     out_len: usize,
+    window: *mut u8,
 ) -> u32 {
-    let (bank, marks, out) = unsafe {
+    let (bank, marks, out, window) = unsafe {
         (
             from_raw_parts(bank, bank_len),
             from_raw_parts(marks, marks_len),
             from_raw_parts_mut(out, out_len),
+            &mut *window.cast(),
         )
     };
-    match bank.get(BLOCK * k..BLOCK * (k + 1)) {
-        Some(block) => code(plain::read(block, marks, out)),
-        None => 5,
-    }
+    code(plain::window::get(bank, k, marks, out, window))
 }
 
 #[no_mangle]
@@ -84,22 +83,30 @@ pub unsafe extern "C" fn plain_patrol(
     k: usize,
     marks: *const u8,
     marks_len: usize,
+    window: *mut u8,
 ) -> u32 {
-    let (bank, marks) = unsafe {
+    let (bank, marks, window) = unsafe {
         (
             from_raw_parts_mut(bank, bank_len),
             from_raw_parts(marks, marks_len),
+            &mut *window.cast(),
         )
     };
-    let Some(block) = bank.get_mut(BLOCK * k..BLOCK * (k + 1)) else {
-        return 5;
-    };
-    let mut out = [0; BLOCK];
-    let said = code(plain::read(block, marks, &mut out));
-    if said & 0xFF == 0 {
-        block.copy_from_slice(&out);
+    code(plain::window::patrol(bank, k, marks, window))
+}
+
+#[no_mangle]
+#[inline(never)]
+pub unsafe extern "C" fn plain_propose(
+    window: *const u8,
+    marks: *const u8,
+    marks_len: usize,
+) -> u32 {
+    let (window, marks) = unsafe { (&*window.cast(), from_raw_parts(marks, marks_len)) };
+    match plain::window::propose(window, marks) {
+        Err(number) => number as u32,
+        Ok(chip) => (chip.unwrap_or(255) as u32) << 8,
     }
-    said
 }
 
 #[no_mangle]

@@ -23,11 +23,14 @@ CASES = {
     "get-clean": ("get, clean", (420, 420)),
     "patrol-clean": ("patrol, clean", (390, 390)),
     "read-chip": ("bad chip", (950, 1250)),
+    "get-chip": ("get, bad chip", None),
+    "patrol-chip": ("patrol, bad chip", None),
     "read-card": ("bad card", (1100, 1100)),
     "read-marked-card-and-chip": ("card* and chip", (1250, 1600)),
     "read-two-marked-chips": ("two chips*", (1300, 1450)),
     "read-none": ("none", None),
     "read-any": ("any damage", (1200, 2700)),
+    "propose": ("propose", None),
     "patrol-1024": ("patrol, 1,024", (390, 390)),
     "report-256": ("report, 256", (300, 300)),
     "report-1024": ("report, 1,024", (300, 300)),
@@ -155,14 +158,19 @@ Nanoseconds for a call:
 
 {times}
 
-- store, read, get, patrol, report: the library's calls. Clean: no byte is bad.
+- store, read, get, patrol, report, propose: the library's calls. Clean: no byte
+  is bad.
 - bad chip, bad card: a read with one chip, or all nine chips of one card, bad
   and nothing marked. A star is a mark: a marked card bad and a further chip;
   two marked chips bad. none: a read with chips of two cards bad and nothing
   marked, which no record fits.
+- get and patrol add the positions they change to the window. With a bad chip
+  they have the blocks of "bad chip", a read, which adds none. propose: from a
+  full window, nothing marked.
 - any damage: reads of random bytes, cards, chips and damage that fits every
   card, under every shape of lawful marks, so "none" and "several" too. libfec
-  has neither this nor "none".
+  has neither this nor "none", nor proposals; its gets and patrols add to the
+  window as those of plain Rust do.
 - 256 and 1,024: a bank of so many clean blocks, patrolled or reported whole;
   figures are for a block.
 - Instructions are callgrind's, over 64 inputs (8,192 for any damage). Where

@@ -118,7 +118,7 @@ class Options(InFolder):
 
     def test_without_options(self):
         said, noted = self.bench()
-        self.assertIn("\n| store          |          - |          5 |      - |\n", said)
+        self.assertIn("\n| store            |          - |          5 |      - |\n", said)
         self.assertIn("Livomashen: library not built (use/build builds it).\n", said)
         self.assertIn("Libfec: not installed", said)
         self.assertNotIn("--cfg library", noted)

@@ -1,7 +1,7 @@
 /*
  * The library with no C library at all: gcc -nostdlib, with a start and a
- * memset of its own.  A card is pulled, the record is got, the bank mended; and
- * the same by registers.
+ * memset of its own.  A card is pulled, the record is got, the bank mended; the
+ * same by registers; and a chip that is going is proposed.
  * The exit is 0, or the number of the step that is not as expected.
  */
 #include "livomashen.h"
@@ -22,6 +22,7 @@ __asm__(".globl _start\n"
 
 static uint8_t bank[LENGTH];
 static uint8_t registers[LIVOMASHEN_REGISTERS] = LIVOMASHEN_FRESH_REGISTERS;
+static uint8_t window[LIVOMASHEN_WINDOW] = LIVOMASHEN_FRESH_WINDOW;
 
 /* A card is pulled: the nine chips of card 1 in block 2 change. */
 static void pull_card(void)
@@ -33,7 +34,8 @@ static void pull_card(void)
 
 static uint32_t write_register(uint32_t address, uint8_t value)
 {
-    return livomashen_write_register(registers, address, value, bank, LENGTH, NULL, 0);
+    return livomashen_write_register(registers, address, value, bank, LENGTH, NULL, 0,
+                                     window);
 }
 
 /* By commands: the number of the step, or 0. */
@@ -56,12 +58,30 @@ static int by_registers(void)
     return 0;
 }
 
+/* A chip goes bad four times, and is proposed: the number of the step, or 0. */
+static int by_window(const uint8_t *marks)
+{
+    livomashen_proposal p;
+    int times;
+    if (livomashen_clear_window(window) != LIVOMASHEN_DONE)
+        return 12;
+    for (times = 0; times < 4; times++) {
+        bank[2 * LIVOMASHEN_BLOCK + 20] ^= 0x5A;
+        if (livomashen_split_answer(livomashen_patrol(bank, LENGTH, 2, marks,
+                LIVOMASHEN_MARKS, window)).n != 1)
+            return 13;
+    }
+    p = livomashen_split_proposal(livomashen_propose(window, marks, LIVOMASHEN_MARKS));
+    return p.number == LIVOMASHEN_DONE && p.chip == 20 ? 0 : 14;
+}
+
 int steps(void)
 {
     uint8_t marks[LIVOMASHEN_MARKS] = LIVOMASHEN_FRESH_MARKS;
     uint8_t record[LIVOMASHEN_RECORD], out[LIVOMASHEN_BLOCK];
     livomashen_totals t;
     size_t at;
+    int wrong;
 
     for (at = 0; at < LENGTH; at++)
         bank[at] = 0xA5;
@@ -75,16 +95,19 @@ int steps(void)
     if (livomashen_place_card(marks, sizeof marks, 1) != LIVOMASHEN_DONE)
         return 3;
     if (livomashen_split_answer(livomashen_get(bank, LENGTH, 2, marks, sizeof marks,
-                                               out, sizeof out)).number != 0)
+                                               out, sizeof out, window)).number != 0)
         return 4;
     for (at = 0; at < sizeof record; at++)
         if (out[at] != record[at])
             return 5;
     if (livomashen_split_answer(livomashen_patrol(bank, LENGTH, 2, marks,
-                                                  sizeof marks)).number != 0)
+                                                  sizeof marks, window)).number != 0)
         return 6;
     if (livomashen_lift_card(marks, sizeof marks) != LIVOMASHEN_DONE)
         return 7;
     t = livomashen_split_report(livomashen_report(bank, LENGTH, marks, sizeof marks));
-    return t.number == 0 && t.clean == BLOCKS ? by_registers() : 8;
+    if (t.number != 0 || t.clean != BLOCKS)
+        return 8;
+    wrong = by_registers();
+    return wrong != 0 ? wrong : by_window(marks);
 }

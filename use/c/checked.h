@@ -34,16 +34,17 @@ static void fail(const char *call, unsigned got, unsigned wanted)
  * `may_write` is the one buffer that a call not refused may write. */
 static void check(const char *call, uint32_t code, unsigned wanted, const lent *may_write)
 {
-    const lent *all[5];
+    const lent *all[6];
     unsigned got = code & 0xFFu;
     int at;
     all[0] = &record, all[1] = &block, all[2] = &out, all[3] = &bank, all[4] = &marks;
+    all[5] = &window;
     calls++;
     if (got != wanted)
         fail(call, got, wanted);
     if (got != 0 && got != 11 && code != got)
         fail("unused parts of the code", code, got);
-    for (at = 0; at < 5; at++) {
+    for (at = 0; at < 6; at++) {
         if (!guards_hold(all[at]))
             fail("guard bytes written", got, wanted);
         if ((got != 0 || all[at] != may_write) && !as_before(all[at]))
@@ -54,7 +55,8 @@ static void check(const char *call, uint32_t code, unsigned wanted, const lent *
 /* --------------------------------------------------- the calls, with checks
  *
  * Bank and blocks are lawful zeros wherever their lengths are right, so that
- * a call not refused is corrected, as clean, or done. */
+ * a call not refused is corrected, as clean, or done, and adds nothing to the
+ * window. */
 
 static void try_store(void)
 {
@@ -113,8 +115,8 @@ static void try_get(size_t k)
                              lowest(bank_number(bank.len),
                                     lowest(block_number(bank.len, k),
                                            mark_number(marks.bytes, marks.len))));
-    uint32_t got = livomashen_get(bank.bytes, bank.len, k, marks.bytes,
-                                  marks.len, out.bytes, out.len);
+    uint32_t got = livomashen_get(bank.bytes, bank.len, k, marks.bytes, marks.len,
+                                  out.bytes, out.len, window.bytes);
     check("get", got, wanted, &out);
     if (wanted == 0 && (got != 0 || memcmp(out.bytes, bank.bytes + 45 * k, 45) != 0))
         fail("a clean block got otherwise", got, wanted);
@@ -126,7 +128,8 @@ static void try_patrol(size_t k)
     unsigned wanted = lowest(bank_number(bank.len),
                              lowest(block_number(bank.len, k),
                                     mark_number(marks.bytes, marks.len)));
-    uint32_t got = livomashen_patrol(bank.bytes, bank.len, k, marks.bytes, marks.len);
+    uint32_t got = livomashen_patrol(bank.bytes, bank.len, k, marks.bytes, marks.len,
+                                     window.bytes);
     /* The blocks are clean, so even a patrol that is done changes nothing. */
     check("patrol", got, wanted, NULL);
 }

@@ -1,8 +1,8 @@
 /*
  * The calls of the registers, each checked: what a write leaves in the twelve
- * bytes is worked out anew from order 1, beside lent.h's numbers, and every
- * byte of registers, bank and output is compared after each call.  Part of
- * limits_registers.c, and included there alone.
+ * bytes is worked out anew from order 1, beside lent.h's numbers and window, and
+ * every byte of registers, bank, output and window is compared after each call.
+ * Part of limits_registers.c, and included there alone.
  */
 #include "lent.h"
 
@@ -16,24 +16,19 @@ typedef struct said {
 
 /* What every block that a command asks for reads as where nothing refuses it,
  * and the 45 bytes that it is mended to.  Most trials have a bank of zeros. */
-static const uint8_t ZEROS[45] = { 0 };
 static const said CLEAN = { 0, 0, 0, 0, 0 };
 static said reads = { 0, 0, 0, 0, 0 };
 static const uint8_t *mended = ZEROS;
 
 static void fail(const char *what, uint32_t address, unsigned value)
 {
-    size_t at;
     printf("%s\n  address %lu, value %u; lengths: bank %lu, output %lu\n", what,
            (unsigned long)address, value, (unsigned long)bank.len,
            (unsigned long)out.len);
-    printf("  registers before:");
-    for (at = 0; at < 12; at++)
-        printf(" %d", held.before[GUARD + at]);
-    printf("\n  registers after: ");
-    for (at = 0; at < 12; at++)
-        printf(" %d", held.bytes[at]);
-    printf("\n");
+    print_bytes("registers before", held.before + GUARD, 12);
+    print_bytes("registers after ", held.bytes, 12);
+    print_bytes("window before", window.before + GUARD, 64);
+    print_bytes("window after ", window.bytes, 64);
     exit(1);
 }
 
@@ -121,6 +116,16 @@ static void take_back(lent *l, size_t from, uint32_t address, unsigned value)
     memcpy(l->bytes + from, l->before + GUARD + from, 45);
 }
 
+/* The window after a get or patrol command that was done; it is put back too. */
+static void take_window_back(size_t k, unsigned value)
+{
+    uint8_t after[64];
+    window_after(window.before + GUARD, bank.before + GUARD + 45 * k, mended, after);
+    if (memcmp(window.bytes, after, 64) != 0)
+        fail("the window after a command", 0, value);
+    memcpy(window.bytes, window.before + GUARD, 64);
+}
+
 /* The header's reading of bytes 4 and 5. */
 static void same_last_answer(said s, uint8_t command)
 {
@@ -135,7 +140,7 @@ static void try_write(uint32_t address, uint8_t value)
     uint8_t after[12];
     unsigned wanted = write_number(address, value);
     uint32_t got = livomashen_write_register(held.bytes, address, value, bank.bytes,
-                                             bank.len, out.bytes, out.len);
+                                             bank.len, out.bytes, out.len, window.bytes);
     calls++;
     if (got != wanted)
         fail("the number of a write", address, value);
@@ -143,6 +148,8 @@ static void try_write(uint32_t address, uint8_t value)
     if (wanted == 0 && address == 0) {
         said s = run_command(after, value);
         same_last_answer(s, value);
+        if (s.number == 0 && value <= 2)
+            take_window_back(block_asked(after), value);
         if (s.number == 0 && value == 1)
             take_back(&out, 0, address, value);
         if (s.number == 0 && value == 2)
@@ -153,7 +160,7 @@ static void try_write(uint32_t address, uint8_t value)
     if (memcmp(held.bytes, after, 12) != 0)
         fail("the registers after a write", address, value);
     memcpy(held.bytes, held.before + GUARD, 12);
-    if (!as_before(&held) || !as_before(&bank) || !as_before(&out))
+    if (!as_before(&held) || !as_before(&bank) || !as_before(&out) || !as_before(&window))
         fail("bytes written that must stay", address, value);
 }
 

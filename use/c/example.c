@@ -11,6 +11,14 @@
 
 enum { BLOCKS = 4, LENGTH = BLOCKS * LIVOMASHEN_BLOCK };
 
+static uint8_t bank[LENGTH], out[LIVOMASHEN_BLOCK];
+static uint8_t marks[LIVOMASHEN_MARKS] = LIVOMASHEN_FRESH_MARKS;
+static uint8_t window[LIVOMASHEN_WINDOW] = LIVOMASHEN_FRESH_WINDOW;
+
+/* Block 2, and the record in it. */
+static uint8_t *const block = bank + 2 * LIVOMASHEN_BLOCK;
+static const uint8_t record[LIVOMASHEN_RECORD] = "line 7, car 2, talking";
+
 static int wrong = 0;
 
 static void expect(int holds, const char *what)
@@ -38,71 +46,94 @@ static void print_answer(const char *when, livomashen_answer a)
         printf("card %d, %d bytes changed\n", a.card, a.n);
 }
 
-int main(void)
+/* Gets block 2 and says what was found; a record that comes must be ours. */
+static livomashen_answer get(const char *when)
 {
-    uint8_t bank[LENGTH];
-    uint8_t marks[LIVOMASHEN_MARKS] = LIVOMASHEN_FRESH_MARKS;
-    uint8_t out[LIVOMASHEN_BLOCK];
-    uint8_t record[LIVOMASHEN_RECORD] = "line 7, car 2, talking";
-    uint8_t *block = bank + 2 * LIVOMASHEN_BLOCK;
+    livomashen_answer a = livomashen_split_answer(
+        livomashen_get(bank, LENGTH, 2, marks, sizeof marks, out, sizeof out, window));
+    print_answer(when, a);
+    expect(a.number != LIVOMASHEN_DONE || memcmp(out, record, sizeof record) == 0,
+           "the record is back");
+    return a;
+}
+
+static void patrol(size_t k)
+{
+    livomashen_answer a = livomashen_split_answer(
+        livomashen_patrol(bank, LENGTH, k, marks, sizeof marks, window));
+    expect(a.number == LIVOMASHEN_DONE, "patrol");
+}
+
+static void card_pulled(void)
+{
     livomashen_answer a;
-    livomashen_totals t;
-    size_t chip, k;
+    size_t k;
 
-    /* An empty bank, then one record in block 2. */
-    expect(livomashen_clear(bank, LENGTH) == LIVOMASHEN_DONE, "clear");
-    expect(livomashen_put(bank, LENGTH, 2, record, sizeof record)
-           == LIVOMASHEN_DONE, "put");
-
-    /* Card 1 is pulled: its nine chips read as ones.  No mark is needed. */
-    for (chip = 0; chip < LIVOMASHEN_CHIPS; chip++)
-        block[9 * 1 + chip] = 0xFF;
-    a = livomashen_split_answer(
-        livomashen_get(bank, LENGTH, 2, marks, sizeof marks, out, sizeof out));
-    print_answer("card 1 pulled:", a);
+    /* The nine chips of card 1 read as ones.  No mark is needed. */
+    memset(block + 9 * 1, 0xFF, LIVOMASHEN_CHIPS);
+    a = get("card 1 pulled:");
     expect(a.number == LIVOMASHEN_DONE && a.kind == LIVOMASHEN_IN_CARD
            && a.card == 1, "card 1 is found");
-    expect(memcmp(out, record, sizeof record) == 0, "the record is back");
 
     /* A chip of card 3 goes bad as well.  No single card explains both, so the
      * reading refuses rather than guess. */
     block[9 * 3 + 4] ^= 0x55;
-    a = livomashen_split_answer(
-        livomashen_get(bank, LENGTH, 2, marks, sizeof marks, out, sizeof out));
-    print_answer("and a chip of card 3 bad:", a);
+    a = get("and a chip of card 3 bad:");
     expect(a.number == LIVOMASHEN_NONE, "none without marks");
 
     /* We know which card we pulled: mark it. */
     expect(livomashen_place_card(marks, sizeof marks, 1) == LIVOMASHEN_DONE,
            "card 1 is marked");
-    a = livomashen_split_answer(
-        livomashen_get(bank, LENGTH, 2, marks, sizeof marks, out, sizeof out));
-    print_answer("the same with card 1 marked:", a);
+    a = get("the same with card 1 marked:");
     expect(a.number == LIVOMASHEN_DONE && a.card == 1, "read under the mark");
-    expect(memcmp(out, record, sizeof record) == 0, "the record is back again");
 
-    /* The card is changed: patrol every block, then lift the mark at once. */
-    for (k = 0; k < BLOCKS; k++) {
-        a = livomashen_split_answer(
-            livomashen_patrol(bank, LENGTH, k, marks, sizeof marks));
-        expect(a.number == LIVOMASHEN_DONE, "patrol");
-    }
+    /* The card is changed: patrol every block, then lift the mark at once.
+     * What the old card did says nothing of the new one, so the window starts
+     * again. */
+    for (k = 0; k < BLOCKS; k++)
+        patrol(k);
     expect(livomashen_lift_card(marks, sizeof marks) == LIVOMASHEN_DONE,
            "the card mark is lifted");
-    a = livomashen_split_answer(
-        livomashen_get(bank, LENGTH, 2, marks, sizeof marks, out, sizeof out));
-    print_answer("after a patrol, mark lifted:", a);
+    livomashen_clear_window(window);
+    a = get("after a patrol, mark lifted:");
     expect(a.number == LIVOMASHEN_DONE && a.kind == LIVOMASHEN_CLEAN, "clean");
+}
 
-    /* Position 31 (card 3, chip 4) is failing for good: mark the chip.  Then
-     * one further bad chip is still mended. */
-    expect(livomashen_place_chip(marks, sizeof marks, 31) == LIVOMASHEN_DONE,
+/* Position 31 (card 3, chip 4) is going: each patrol mends it, and at the fourth
+ * time it is proposed.  To mark it is our choice; the library never does. */
+static void chip_going(void)
+{
+    livomashen_proposal p;
+    int times = 0;
+    do {
+        block[31] ^= 0x55;
+        patrol(2);
+        times++;
+        p = livomashen_split_proposal(livomashen_propose(window, marks, sizeof marks));
+        expect(p.number == LIVOMASHEN_DONE, "the marks are lawful");
+    } while (p.chip == LIVOMASHEN_NO_CHIP && times < 10);
+    printf("after %d patrols with it bad: chip %d is proposed\n", times, p.chip);
+    expect(p.chip == 31 && times == 4, "chip 31 is proposed at the fourth time");
+    expect(livomashen_place_chip(marks, sizeof marks, p.chip) == LIVOMASHEN_DONE,
            "chip 31 is marked");
+}
+
+int main(void)
+{
+    livomashen_answer a;
+    livomashen_totals t;
+
+    /* An empty bank, then one record in block 2. */
+    expect(livomashen_clear(bank, LENGTH) == LIVOMASHEN_DONE, "clear");
+    expect(livomashen_put(bank, LENGTH, 2, record, sizeof record)
+           == LIVOMASHEN_DONE, "put");
+    card_pulled();
+    chip_going();
+
+    /* With the chip marked one further bad chip is still mended. */
     block[31] ^= 0x55;
     block[0] ^= 0x01;
-    a = livomashen_split_answer(
-        livomashen_get(bank, LENGTH, 2, marks, sizeof marks, out, sizeof out));
-    print_answer("chip 31 marked, and chip 0 bad:", a);
+    a = get("chip 31 marked, and chip 0 bad:");
     expect(a.number == LIVOMASHEN_DONE && a.kind == LIVOMASHEN_IN_CHIPS
            && a.n == 2, "two chips are mended");
 

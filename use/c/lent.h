@@ -1,7 +1,8 @@
 /*
  * What the checked calls share: lent buffers between guard bytes, document 01's
- * numbers worked out anew, and mark records for the trials.  Part of checked.h
- * and checked_registers.h.
+ * numbers and order 2's window worked out anew, and mark records for the trials.
+ * Part of checked.h, checked_registers.h and checked_window.h; inline, since
+ * none of them uses all of it.
  */
 #include "livomashen.h"
 
@@ -21,11 +22,20 @@ typedef struct lent {
 
 static unsigned long calls = 0;
 
+/* The window: whatever call takes one is lent this. */
+static lent window;
+
 /* ------------------------------------------------------------- the buffers */
+
+/* Remembers how the slice is now. */
+static inline void keep(lent *l)
+{
+    memcpy(l->before, l->now, l->len + 2 * GUARD);
+}
 
 /* Makes the slice of this length, filled with a pattern that no call writes
  * by chance, and remembers it. */
-static void lend(lent *l, size_t len)
+static inline void lend(lent *l, size_t len)
 {
     size_t at;
     l->len = len;
@@ -33,56 +43,65 @@ static void lend(lent *l, size_t len)
     memset(l->now, 0xA7, len + 2 * GUARD);
     for (at = 0; at < len; at++)
         l->bytes[at] = (uint8_t)(at * 37 + 11);
-    memcpy(l->before, l->now, len + 2 * GUARD);
+    keep(l);
 }
 
 /* The same with given content, repeated to the length. */
-static void lend_bytes(lent *l, size_t len, const uint8_t *from, size_t from_len)
+static inline void lend_bytes(lent *l, size_t len, const uint8_t *from, size_t from_len)
 {
     size_t at;
     lend(l, len);
     for (at = 0; at < len; at++)
         l->bytes[at] = from[at % from_len];
-    memcpy(l->before, l->now, len + 2 * GUARD);
+    keep(l);
 }
 
 /* The slice and the guard bytes around it. */
-static int as_before(const lent *l)
+static inline int as_before(const lent *l)
 {
     return memcmp(l->now, l->before, l->len + 2 * GUARD) == 0;
 }
 
+static inline void print_bytes(const char *what, const uint8_t *bytes, size_t count)
+{
+    size_t at;
+    printf("  %s:", what);
+    for (at = 0; at < count; at++)
+        printf(" %d", bytes[at]);
+    printf("\n");
+}
+
 /* ---------------------------------------------------- the expected numbers */
 
-static unsigned lowest(unsigned a, unsigned b)
+static inline unsigned lowest(unsigned a, unsigned b)
 {
     if (a == 0)
         return b;
     return b == 0 || a < b ? a : b;
 }
 
-static unsigned length_number(size_t len, size_t right, unsigned number)
+static inline unsigned length_number(size_t len, size_t right, unsigned number)
 {
     return len == right ? 0 : number;
 }
 
-static unsigned bank_number(size_t len)
+static inline unsigned bank_number(size_t len)
 {
     return len >= 45 && len <= 46080 && len % 45 == 0 ? 0 : 4;
 }
 
-static unsigned block_number(size_t len, size_t k)
+static inline unsigned block_number(size_t len, size_t k)
 {
     return k < len / 45 ? 0 : 5;
 }
 
 /* A chip place below the count holds a position, any other 255. */
-static int place_lawful(uint8_t place, int used)
+static inline int place_lawful(uint8_t place, int used)
 {
     return used ? place <= 44 : place == 255;
 }
 
-static unsigned mark_number(const uint8_t *m, size_t len)
+static inline unsigned mark_number(const uint8_t *m, size_t len)
 {
     if (len != 4)
         return 6;
@@ -93,7 +112,7 @@ static unsigned mark_number(const uint8_t *m, size_t len)
     return m[1] == 2 && m[2] == m[3] ? 7 : 0;
 }
 
-static int chip_there(const uint8_t *m, uint32_t position)
+static inline int chip_there(const uint8_t *m, uint32_t position)
 {
     return (m[1] >= 1 && m[2] == position) || (m[1] == 2 && m[3] == position);
 }
@@ -103,7 +122,8 @@ static int chip_there(const uint8_t *m, uint32_t position)
  * Each gives the number of its call; where that is 0, `after` is the record
  * that the call leaves. */
 
-static unsigned chip_placed(const uint8_t *m, size_t len, uint32_t position, uint8_t *after)
+static inline unsigned chip_placed(const uint8_t *m, size_t len, uint32_t position,
+                                   uint8_t *after)
 {
     unsigned number = lowest(mark_number(m, len), position > 44 ? 6 : 0);
     if (number == 0 && chip_there(m, position))
@@ -118,7 +138,8 @@ static unsigned chip_placed(const uint8_t *m, size_t len, uint32_t position, uin
     return number;
 }
 
-static unsigned chip_lifted(const uint8_t *m, size_t len, uint32_t position, uint8_t *after)
+static inline unsigned chip_lifted(const uint8_t *m, size_t len, uint32_t position,
+                                   uint8_t *after)
 {
     unsigned number = lowest(mark_number(m, len), position > 44 ? 6 : 0);
     if (number == 0 && !chip_there(m, position))
@@ -132,7 +153,8 @@ static unsigned chip_lifted(const uint8_t *m, size_t len, uint32_t position, uin
     return number;
 }
 
-static unsigned card_placed(const uint8_t *m, size_t len, uint32_t card, uint8_t *after)
+static inline unsigned card_placed(const uint8_t *m, size_t len, uint32_t card,
+                                   uint8_t *after)
 {
     unsigned number = lowest(mark_number(m, len), card > 4 ? 6 : 0);
     if (number == 0 && m[0] != 255)
@@ -144,7 +166,7 @@ static unsigned card_placed(const uint8_t *m, size_t len, uint32_t card, uint8_t
     return number;
 }
 
-static unsigned card_lifted(const uint8_t *m, size_t len, uint8_t *after)
+static inline unsigned card_lifted(const uint8_t *m, size_t len, uint8_t *after)
 {
     unsigned number = mark_number(m, len);
     if (number == 0 && m[0] == 255)
@@ -156,9 +178,27 @@ static unsigned card_lifted(const uint8_t *m, size_t len, uint8_t *after)
     return number;
 }
 
+/* ---------------------------------------------- the window after a correction
+ *
+ * The last 64 of what it held and of the positions in which the block and the
+ * one that it was mended to differ. */
+
+static inline void window_after(const uint8_t *held, const uint8_t *block,
+                                const uint8_t *mended, uint8_t *after)
+{
+    uint8_t run[64 + 45];
+    size_t count = 64, p;
+    memcpy(run, held, 64);
+    for (p = 0; p < 45; p++)
+        if (block[p] != mended[p])
+            run[count++] = (uint8_t)p;
+    memcpy(after, run + count - 64, 64);
+}
+
 /* ------------------------------------------------- values for the trials */
 
 static const uint8_t ZERO[1] = { 0 };
+static const uint8_t ZEROS[45] = { 0 };
 static const uint8_t FRESH[4] = LIVOMASHEN_FRESH_MARKS;
 
 /* Lawful and unlawful records of every shape; the last three are 7, 6, 6. */

@@ -3,7 +3,7 @@
  * expected number is worked out in checked.h, anew, from document 01's table;
  * after each call, what must not have changed is compared byte by byte, and so
  * are the guard bytes around every buffer.  limits_registers.c has the calls of
- * the registers.
+ * the registers, limits_window.c what the window holds and the proposal.
  *
  * Prints how many calls were made, or the first that differs, and exit 1.
  */
@@ -25,6 +25,7 @@ static void lend_all(void)
     lend(&out, 45);
     lend_bytes(&bank, 90, ZERO, 1);
     lend_bytes(&marks, 4, FRESH, 4);
+    lend(&window, 64);
 }
 
 /* Every length of every slice, each beside every length of the others that
@@ -112,10 +113,10 @@ static void unreadable(void)
         lend_bytes(&bank, 90, blocks[wanted - 10], 45);
         check("read", livomashen_read(block.bytes, 45, marks.bytes, 4, out.bytes, 45),
               wanted, NULL);
-        check("get", livomashen_get(bank.bytes, 90, 1, marks.bytes, 4, out.bytes, 45),
-              wanted, NULL);
-        check("patrol", livomashen_patrol(bank.bytes, 90, 1, marks.bytes, 4),
-              wanted, NULL);
+        check("get", livomashen_get(bank.bytes, 90, 1, marks.bytes, 4, out.bytes, 45,
+                                    window.bytes), wanted, NULL);
+        check("patrol", livomashen_patrol(bank.bytes, 90, 1, marks.bytes, 4,
+                                          window.bytes), wanted, NULL);
     }
     lend_all();
 }
@@ -132,9 +133,10 @@ static void null_pointers(void)
     check("clear, null", livomashen_clear(NULL, 0), 4, NULL);
     check("put, null", livomashen_put(NULL, 0, 0, NULL, 0), 3, NULL);
     check("put, null bank", livomashen_put(NULL, 0, 0, record.bytes, 34), 4, NULL);
-    check("get, null", livomashen_get(NULL, 0, 0, NULL, 0, NULL, 0), 2, NULL);
-    check("get, null bank", livomashen_get(NULL, 0, 0, NULL, 0, out.bytes, 45), 4, NULL);
-    check("patrol, null", livomashen_patrol(NULL, 0, 0, NULL, 0), 4, NULL);
+    check("get, null", livomashen_get(NULL, 0, 0, NULL, 0, NULL, 0, window.bytes), 2, NULL);
+    check("get, null bank", livomashen_get(NULL, 0, 0, NULL, 0, out.bytes, 45, window.bytes),
+          4, NULL);
+    check("patrol, null", livomashen_patrol(NULL, 0, 0, NULL, 0, window.bytes), 4, NULL);
     check("report, null", (uint32_t)livomashen_report(NULL, 0, NULL, 0), 4, NULL);
     check("place chip, null", livomashen_place_chip(NULL, 0, 0), 6, NULL);
     check("lift chip, null", livomashen_lift_chip(NULL, 0, 0), 6, NULL);

@@ -3,7 +3,7 @@
  * are not lawful, wrong lengths behind a command, and every bit of byte 7.  What
  * each call must leave is worked out in checked_registers.h, anew, from order 1;
  * after each call every byte is compared, and so are the guard bytes around
- * registers, bank and output.
+ * registers, bank, output and window.
  *
  * Prints how many calls were made, or the first that differs, and exit 1.
  */
@@ -33,6 +33,7 @@ static void lend_all(void)
     lend_registers(START);
     lend_bytes(&bank, 90, ZERO, 1);
     lend(&out, 45);
+    lend(&window, 64);
     reads = CLEAN;
     mended = ZEROS;
 }
@@ -215,11 +216,11 @@ static void null_pointers(void)
 {
     lend_all();
     bank.len = 0, bank.bytes = NULL;
-    memcpy(bank.before, bank.now, 2 * GUARD);
+    keep(&bank);
     every_command();
     try_write(1, 9);
     out.len = 0, out.bytes = NULL;
-    memcpy(out.before, out.now, 2 * GUARD);
+    keep(&out);
     every_command();
     try_write(7, 255);
     lend_all();
@@ -256,7 +257,7 @@ static void worked_blocks(void)
         lend_bytes(&bank, 300 * 45, ZERO, 1);
         for (at = 0; at < 3; at++)
             bank.bytes[258 * 45 + w->bytes[at][0]] = w->bytes[at][1];
-        memcpy(bank.before, bank.now, bank.len + 2 * GUARD);
+        keep(&bank);
         reads = w->reads;
         mended = w->marks[0] == 1 ? on_card_1 : ZEROS;
         memcpy(r + 8, w->marks, 4);

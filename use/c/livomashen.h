@@ -8,12 +8,14 @@
  *
  * Lent bytes are passed as a pointer, then a length.  Any length may be
  * passed: a wrong one is refused by its number.  With a length of 0 the
- * pointer is not followed.  The registers alone are passed without a length:
- * they are twelve bytes, always.  Bytes that a call may write must not overlap
- * any other bytes lent to the same call.  A refused call writes nothing at all.
+ * pointer is not followed.  Registers and window alone are passed without a
+ * length: they are twelve bytes and 64, always.  Bytes that a call may write
+ * must not overlap any other bytes lent to the same call.  A refused call
+ * writes nothing at all.
  *
- * No call allocates, keeps anything between calls, or fails to return.  Calls
- * on different bytes may run at the same time.
+ * No call allocates, keeps anything between calls, or fails to return: bank,
+ * marks, registers and window are the caller's.  Calls on different bytes may
+ * run at the same time.
  *
  * C99 and C++.  See livomashen(3).
  */
@@ -28,10 +30,10 @@ extern "C" {
 #endif
 
 /* The version: another MAJOR may need changes in a program that uses it. */
-#define LIVOMASHEN_VERSION_MAJOR 1
-#define LIVOMASHEN_VERSION_MINOR 1
+#define LIVOMASHEN_VERSION_MAJOR 2
+#define LIVOMASHEN_VERSION_MINOR 0
 #define LIVOMASHEN_VERSION_PATCH 0
-#define LIVOMASHEN_VERSION "1.1.0"
+#define LIVOMASHEN_VERSION "2.0.0"
 
 /* Sizes. */
 enum {
@@ -41,6 +43,7 @@ enum {
     LIVOMASHEN_RECORD = 34,          /* bytes of a record: a block's first */
     LIVOMASHEN_MARKS = 4,            /* bytes of a mark record */
     LIVOMASHEN_REGISTERS = 12,       /* bytes of the registers */
+    LIVOMASHEN_WINDOW = 64,          /* bytes of the window */
     LIVOMASHEN_MOST_BLOCKS = 1024,   /* blocks of the largest bank */
     LIVOMASHEN_LARGEST_BANK = 46080  /* its bytes */
 };
@@ -80,6 +83,21 @@ enum {
  * place holds 255.  This starts one:
  *     uint8_t marks[LIVOMASHEN_MARKS] = LIVOMASHEN_FRESH_MARKS;           */
 #define LIVOMASHEN_FRESH_MARKS { 255, 0, 255, 255 }
+
+/* No chip: a proposal has it where no chip is proposed, and a window where no
+ * position stands yet. */
+enum { LIVOMASHEN_NO_CHIP = 255 };
+
+/* The window holds the last 64 positions that gets and patrols corrected, one a
+ * byte: the oldest first, the newest in byte 63, and 255 before them while
+ * there are fewer.  This starts one, and so does livomashen_clear_window:
+ *     uint8_t window[LIVOMASHEN_WINDOW] = LIVOMASHEN_FRESH_WINDOW;
+ * Any 64 bytes may be lent: bytes of 45 and more are no positions.       */
+#define LIVOMASHEN_FRESH_WINDOW { \
+    255,255,255,255,255,255,255,255,255,255,255,255,255,255,255,255, \
+    255,255,255,255,255,255,255,255,255,255,255,255,255,255,255,255, \
+    255,255,255,255,255,255,255,255,255,255,255,255,255,255,255,255, \
+    255,255,255,255,255,255,255,255,255,255,255,255,255,255,255,255 }
 
 /* The corrector as registers: twelve bytes.  This starts them:
  *     uint8_t registers[LIVOMASHEN_REGISTERS] = LIVOMASHEN_FRESH_REGISTERS;
@@ -137,16 +155,19 @@ uint32_t livomashen_clear(uint8_t *bank, size_t bank_len);
 uint32_t livomashen_put(uint8_t *bank, size_t bank_len, size_t k,
                         const uint8_t *rec, size_t rec_len);
 
-/* Reads block k of a bank into out and leaves the bank as it is.  Gives an
+/* Reads block k of a bank into out and leaves the bank as it is; the positions
+ * of the bytes that were changed go into the window, lowest first.  Gives an
  * answer code: 0 and a kind, or 2, 4, 5, 6, 7, 10, 11. */
 uint32_t livomashen_get(const uint8_t *bank, size_t bank_len, size_t k,
                         const uint8_t *marks, size_t marks_len,
-                        uint8_t *out, size_t out_len);
+                        uint8_t *out, size_t out_len, uint8_t *window);
 
-/* Reads block k of a bank and puts the corrected bytes back.  Gives an answer
+/* Reads block k of a bank and puts the corrected bytes back, and the positions
+ * of those that were changed into the window, lowest first.  Gives an answer
  * code: 0 and a kind, or 4, 5, 6, 7, 10, 11. */
 uint32_t livomashen_patrol(uint8_t *bank, size_t bank_len, size_t k,
-                           const uint8_t *marks, size_t marks_len);
+                           const uint8_t *marks, size_t marks_len,
+                           uint8_t *window);
 
 /* Counts the blocks of a bank by their readings.  Gives a report code: 0 and
  * the five totals, or 4, 6, 7. */
@@ -165,17 +186,19 @@ uint32_t livomashen_place_card(uint8_t *marks, size_t marks_len,
                                uint32_t card);
 uint32_t livomashen_lift_card(uint8_t *marks, size_t marks_len);
 
-/* Writes one of the twelve registers.  Byte 0: runs the command on bank and
- * out under the marks in bytes 8 to 11, and enters it and its answer.  Byte 7:
- * clears the bits that are set in value.  Bytes 1, 2, 3 and 6: take the value.
- * Bank and out are looked at only where the command's own call takes them.
- * Gives 0, or 12, 13, 14; then registers, bank and out are as before.  A
- * command that is refused by another number is a write that was done: it
- * changes only registers, and its number stands in byte 4. */
+/* Writes one of the twelve registers.  Byte 0: runs the command on bank, out
+ * and window under the marks in bytes 8 to 11, and enters it and its answer.
+ * Byte 7: clears the bits that are set in value.  Bytes 1, 2, 3 and 6: take the
+ * value.  Bank and out are looked at only where the command's own call takes
+ * them, and only a get or patrol changes the window.  Gives 0, or 12, 13, 14;
+ * then registers, bank, out and window are as before.  A command that is
+ * refused by another number is a write that was done: it changes only
+ * registers, and its number stands in byte 4. */
 uint32_t livomashen_write_register(uint8_t *registers, uint32_t address,
                                    uint8_t value,
                                    uint8_t *bank, size_t bank_len,
-                                   uint8_t *out, size_t out_len);
+                                   uint8_t *out, size_t out_len,
+                                   uint8_t *window);
 
 /* Reads one of the twelve registers.  Gives a register code: 0 and the byte,
  * or 12. */
@@ -183,6 +206,16 @@ uint32_t livomashen_read_register(const uint8_t *registers, uint32_t address);
 
 /* The interrupt: 1 while bytes 6 and 7 share a set bit, else 0. */
 uint32_t livomashen_interrupt(const uint8_t *registers);
+
+/* Empties the window: all 64 bytes become 255.  Gives 0. */
+uint32_t livomashen_clear_window(uint8_t *window);
+
+/* Proposes a chip to mark: the lowest position that stands in the window four
+ * times or more and is not marked, nor its card.  Places no mark.  Gives a
+ * proposal code: 0 and the chip, or LIVOMASHEN_NO_CHIP where there is none; or
+ * 6, 7. */
+uint32_t livomashen_propose(const uint8_t *window,
+                            const uint8_t *marks, size_t marks_len);
 
 /* ------------------------------------------------------- codes taken apart */
 
@@ -210,6 +243,13 @@ typedef struct livomashen_register {
     uint8_t number;   /* bits 0-7: 0, or 12 */
     uint8_t byte;     /* bits 8-15: the register; 0 with 12 */
 } livomashen_register;
+
+/* What propose says. */
+typedef struct livomashen_proposal {
+    uint8_t number;   /* bits 0-7: 0, or 6, 7 */
+    uint8_t chip;     /* bits 8-15: its position, or LIVOMASHEN_NO_CHIP; 0
+                         with a refusal */
+} livomashen_proposal;
 
 static inline livomashen_answer livomashen_split_answer(uint32_t code)
 {
@@ -242,6 +282,14 @@ static inline livomashen_register livomashen_split_register(uint32_t code)
     r.number = code & 0xFFu;
     r.byte = (code >> 8) & 0xFFu;
     return r;
+}
+
+static inline livomashen_proposal livomashen_split_proposal(uint32_t code)
+{
+    livomashen_proposal p;
+    p.number = code & 0xFFu;
+    p.chip = (code >> 8) & 0xFFu;
+    return p;
 }
 
 /* What the last command said, from bytes 4 and 5.  Before the first command

@@ -14,6 +14,7 @@ enum { BLOCKS = 300, LENGTH = BLOCKS * LIVOMASHEN_BLOCK };
 
 static uint8_t bank[LENGTH], out[LIVOMASHEN_BLOCK];
 static uint8_t registers[LIVOMASHEN_REGISTERS] = LIVOMASHEN_FRESH_REGISTERS;
+static uint8_t window[LIVOMASHEN_WINDOW] = LIVOMASHEN_FRESH_WINDOW;
 
 /* Bytes 8 to 11 are the mark record itself: plain calls take it as theirs. */
 static uint8_t *const marks = registers + LIVOMASHEN_AT_MARKS;
@@ -49,21 +50,21 @@ static void on_interrupt(void)
         refused++;
     else
         done++;
-    /* No command: neither bank nor output is looked at. */
+    /* No command: neither bank nor output is looked at, and the window stays. */
     expect(livomashen_write_register(registers, LIVOMASHEN_AT_PENDING, pending,
-                                     NULL, 0, NULL, 0) == LIVOMASHEN_DONE,
+                                     NULL, 0, NULL, 0, window) == LIVOMASHEN_DONE,
            "the handler acknowledges");
 }
 
 /* ----------------------------------------------------------- the main loop */
 
-/* Writes a register, and plays the interrupt line.  The handler writes the same
- * twelve bytes, so that it must not run in the middle of the call: firmware
- * masks the interrupt for that time, and here it is looked at after. */
+/* Writes a register, and plays the interrupt line.  The handler is lent the same
+ * registers and window, so that it must not run in the middle of the call:
+ * firmware masks the interrupt for that time, and here it is looked at after. */
 static void write_register(uint32_t address, uint8_t value)
 {
     expect(livomashen_write_register(registers, address, value, bank, LENGTH,
-                                     out, sizeof out) == LIVOMASHEN_DONE,
+                                     out, sizeof out, window) == LIVOMASHEN_DONE,
            "a register is written");
     while (livomashen_interrupt(registers))
         on_interrupt();
@@ -146,7 +147,7 @@ static void after_a_change_of_card(size_t block)
     expect(last.number == LIVOMASHEN_MARK_ABSENT, "lifted twice is refused");
     memcpy(before, registers, sizeof before);
     expect(livomashen_write_register(registers, LIVOMASHEN_AT_COMMAND, 7, bank,
-                                     LENGTH, out, sizeof out)
+                                     LENGTH, out, sizeof out, window)
            == LIVOMASHEN_COMMAND_UNKNOWN, "command 7 is refused");
     expect(memcmp(before, registers, sizeof before) == 0, "and nothing changes");
 }
@@ -156,8 +157,11 @@ int main(void)
     const size_t block = 258;
     uint8_t record[LIVOMASHEN_RECORD] = "line 7, car 2, talking";
     livomashen_totals t;
+    livomashen_proposal p;
+    int times;
 
-    /* Clear, put and report are plain calls: there is no command for them. */
+    /* Clear, put, report and proposals are plain calls: there is no command for
+     * them. */
     expect(livomashen_clear(bank, LENGTH) == LIVOMASHEN_DONE, "clear");
     expect(livomashen_put(bank, LENGTH, block, record, sizeof record)
            == LIVOMASHEN_DONE, "put");
@@ -169,15 +173,25 @@ int main(void)
     expect(t.number == LIVOMASHEN_DONE && t.clean == BLOCKS, "all blocks are clean");
 
     /* A mark placed by a plain call is in the registers, and a command reads
-     * under it and lifts it. */
+     * under it and lifts it.  What card 1 did before its change is no sign of a
+     * chip that is going, so the window starts again. */
+    livomashen_clear_window(window);
     expect(livomashen_place_chip(marks, LIVOMASHEN_MARKS, 31) == LIVOMASHEN_DONE,
            "chip 31 is marked");
     bank[LIVOMASHEN_BLOCK * block + 31] ^= 0x55;
     bank[LIVOMASHEN_BLOCK * block] ^= 0x01;
-    command_on_block(LIVOMASHEN_COMMAND_GET, block);
+    for (times = 0; times < 4; times++)
+        command_on_block(LIVOMASHEN_COMMAND_GET, block);
     print_last("chip 31 marked, and chip 0 bad:");
     expect(last.kind == LIVOMASHEN_IN_CHIPS && last.n == 2, "two chips are mended");
     expect(memcmp(out, record, sizeof record) == 0, "the record is back");
+
+    /* Four gets, so both chips stand there four times: the one that is not
+     * marked is proposed. */
+    p = livomashen_split_proposal(
+        livomashen_propose(window, marks, LIVOMASHEN_MARKS));
+    printf("proposed: chip %d\n", p.chip);
+    expect(p.number == LIVOMASHEN_DONE && p.chip == 0, "chip 0 is proposed");
     command_on_marks(LIVOMASHEN_COMMAND_LIFT_CHIP, 31);
     print_last("and its mark lifted:");
     expect(last.kind == LIVOMASHEN_MARKED && marks[1] == 0, "no chip is marked");

@@ -20,7 +20,7 @@ enum { ROOM = 8192, ROUNDS = 20000, BLOCKS = 3, LENGTH = BLOCKS * 45 };
 
 typedef void any_call(void);
 
-/* Calls a function with seven arguments on the stack that ends at `top`. */
+/* Calls a function with eight arguments on the stack that ends at `top`. */
 uint64_t call_on(void *top, any_call *function, const uint64_t *arguments);
 
 __asm__(".globl call_on\n"
@@ -29,9 +29,11 @@ __asm__(".globl call_on\n"
         "    mov %rsp, %rbp\n"
         "    mov %rsi, %rax\n"
         "    mov %rdx, %r10\n"
-        "    lea -16(%rdi), %rsp\n"       /* the seventh goes by the stack */
+        "    lea -16(%rdi), %rsp\n"       /* two of them go by the stack */
         "    mov 48(%r10), %r11\n"
         "    mov %r11, (%rsp)\n"
+        "    mov 56(%r10), %r11\n"
+        "    mov %r11, 8(%rsp)\n"
         "    mov (%r10), %rdi\n"
         "    mov 8(%r10), %rsi\n"
         "    mov 16(%r10), %rdx\n"
@@ -75,7 +77,7 @@ static unsigned below(unsigned limit)
 }
 
 static uint8_t record[100], block[100], out[100], bank[LENGTH], kept[LENGTH];
-static uint8_t marks[4], registers[LIVOMASHEN_REGISTERS];
+static uint8_t marks[4], registers[LIVOMASHEN_REGISTERS], window[LIVOMASHEN_WINDOW];
 
 static void fill(uint8_t *at, size_t count)
 {
@@ -113,6 +115,20 @@ static void any_registers(void)
     memcpy(registers + LIVOMASHEN_AT_MARKS, marks, 4);
 }
 
+/* Few positions, so that most windows have some to propose; now and then fresh,
+ * or any bytes. */
+static void any_window(void)
+{
+    unsigned sort = below(16), at;
+    if (sort == 0)
+        fill(window, LIVOMASHEN_WINDOW);
+    else if (sort == 1)
+        livomashen_clear_window(window);
+    else
+        for (at = 0; at < LIVOMASHEN_WINDOW; at++)
+            window[at] = (uint8_t)(below(sort) * 7 % 45);
+}
+
 /* Damage to a stored block: marked chips, cards, chips, what fits every card,
  * or all of it. */
 static void damage(uint8_t *at)
@@ -138,6 +154,7 @@ static void any_input(void)
     size_t k;
     any_marks();
     any_registers();
+    any_window();
     for (k = 0; k < BLOCKS; k++) {
         fill(record, 34);
         livomashen_store(record, 34, bank + 45 * k, 45);
@@ -149,11 +166,11 @@ static void any_input(void)
 
 /* --------------------------------------------------------------- the calls */
 
-enum { MOST = 14 };
+enum { MOST = 16 };
 static const char *const NAMES[MOST] = {
     "store", "read", "clear", "put", "get", "patrol", "report", "place_chip",
     "lift_chip", "place_card", "lift_card", "write_register", "read_register",
-    "interrupt"
+    "interrupt", "clear_window", "propose"
 };
 static size_t deepest[MOST];
 
@@ -162,14 +179,16 @@ static uint64_t address(const void *at)
     return (uint64_t)(uintptr_t)at;
 }
 
-/* One call under both paints; bank, marks and registers are as before each
- * time. */
+/* One call under both paints; bank, marks, registers and window are as before
+ * each time. */
 static void measure(int call, any_call *function, const uint64_t *arguments)
 {
     uint8_t marks_kept[4], registers_kept[LIVOMASHEN_REGISTERS];
+    uint8_t window_kept[LIVOMASHEN_WINDOW];
     int paint;
     memcpy(marks_kept, marks, sizeof marks);
     memcpy(registers_kept, registers, sizeof registers);
+    memcpy(window_kept, window, sizeof window);
     for (paint = 0; paint < 2; paint++) {
         size_t found = taken(function, arguments, paint == 0 ? 0x5A : 0xC3);
         if (found > deepest[call])
@@ -177,13 +196,15 @@ static void measure(int call, any_call *function, const uint64_t *arguments)
         memcpy(bank, kept, LENGTH);
         memcpy(marks, marks_kept, sizeof marks);
         memcpy(registers, registers_kept, sizeof registers);
+        memcpy(window, window_kept, sizeof window);
     }
 }
 
 static void one_round(void)
 {
     uint64_t r = address(record), b = address(block), o = address(out),
-             n = address(bank), m = address(marks), g = address(registers);
+             n = address(bank), m = address(marks), g = address(registers),
+             w = address(window);
     size_t k = below(BLOCKS + 1), of_bank = below(16) == 0 ? below(LENGTH) : LENGTH;
     size_t of_marks = below(16) == 0 ? below(5) : 4, of_out = length(45);
     size_t of_record = length(34), of_block = length(45);
@@ -191,21 +212,23 @@ static void one_round(void)
     /* Most writes are commands, and half of those a get or a patrol. */
     uint64_t at = below(4) == 0 ? below(14) : LIVOMASHEN_AT_COMMAND;
     uint64_t value = below(2) == 0 ? 1 + below(2) : below(8);
-    const uint64_t lists[MOST][7] = {
-        { r, of_record, o, of_out, 0, 0, 0 },
-        { b, of_block, m, of_marks, o, of_out, 0 },
-        { n, of_bank, 0, 0, 0, 0, 0 },
-        { n, of_bank, k, r, of_record, 0, 0 },
-        { n, of_bank, k, m, of_marks, o, of_out },
-        { n, of_bank, k, m, of_marks, 0, 0 },
-        { n, of_bank, m, of_marks, 0, 0, 0 },
-        { m, of_marks, chip, 0, 0, 0, 0 },
-        { m, of_marks, below(2) == 0 ? marks[2] : chip, 0, 0, 0, 0 },
-        { m, of_marks, card, 0, 0, 0, 0 },
-        { m, of_marks, 0, 0, 0, 0, 0 },
-        { g, at, value, n, of_bank, o, of_out },
-        { g, at, 0, 0, 0, 0, 0 },
-        { g, 0, 0, 0, 0, 0, 0 }
+    const uint64_t lists[MOST][8] = {
+        { r, of_record, o, of_out, 0, 0, 0, 0 },
+        { b, of_block, m, of_marks, o, of_out, 0, 0 },
+        { n, of_bank, 0, 0, 0, 0, 0, 0 },
+        { n, of_bank, k, r, of_record, 0, 0, 0 },
+        { n, of_bank, k, m, of_marks, o, of_out, w },
+        { n, of_bank, k, m, of_marks, w, 0, 0 },
+        { n, of_bank, m, of_marks, 0, 0, 0, 0 },
+        { m, of_marks, chip, 0, 0, 0, 0, 0 },
+        { m, of_marks, below(2) == 0 ? marks[2] : chip, 0, 0, 0, 0, 0 },
+        { m, of_marks, card, 0, 0, 0, 0, 0 },
+        { m, of_marks, 0, 0, 0, 0, 0, 0 },
+        { g, at, value, n, of_bank, o, of_out, w },
+        { g, at, 0, 0, 0, 0, 0, 0 },
+        { g, 0, 0, 0, 0, 0, 0, 0 },
+        { w, 0, 0, 0, 0, 0, 0, 0 },
+        { w, m, of_marks, 0, 0, 0, 0, 0 }
     };
     any_call *const calls[MOST] = {
         (any_call *)livomashen_store, (any_call *)livomashen_read,
@@ -214,7 +237,8 @@ static void one_round(void)
         (any_call *)livomashen_report, (any_call *)livomashen_place_chip,
         (any_call *)livomashen_lift_chip, (any_call *)livomashen_place_card,
         (any_call *)livomashen_lift_card, (any_call *)livomashen_write_register,
-        (any_call *)livomashen_read_register, (any_call *)livomashen_interrupt
+        (any_call *)livomashen_read_register, (any_call *)livomashen_interrupt,
+        (any_call *)livomashen_clear_window, (any_call *)livomashen_propose
     };
     int call;
     for (call = 0; call < MOST; call++)

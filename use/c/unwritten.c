@@ -1,9 +1,9 @@
 /*
  * Memory that was never written: a store into it, a put into a bank of it, a
- * clear of it, reads into outputs of it, and register writes beside it.  Run
- * under valgrind's memcheck, which follows every bit that nobody set: a call
- * that looked at the old bytes of its target would hand them on to the reading
- * after it.
+ * clear of it, reads into outputs of it, register writes beside it, and a window
+ * made of it.  Run under valgrind's memcheck, which follows every bit that nobody
+ * set: a call that looked at the old bytes of its target would hand them on to
+ * the reading after it.
  *
  * The exit is 0, or the number of the step that is not as expected.
  */
@@ -16,6 +16,7 @@ enum { BLOCKS = 3, LENGTH = BLOCKS * LIVOMASHEN_BLOCK };
 
 static const uint8_t MARKS[LIVOMASHEN_MARKS] = LIVOMASHEN_FRESH_MARKS;
 static uint8_t record[LIVOMASHEN_RECORD] = "line 7, car 2, talking";
+static uint8_t window[LIVOMASHEN_WINDOW] = LIVOMASHEN_FRESH_WINDOW;
 
 /* Fresh from malloc: memcheck takes all of it as never written. */
 static uint8_t *unwritten(size_t count)
@@ -49,11 +50,11 @@ static int put_and_get(size_t k)
     int wrong = 0;
     if (livomashen_put(bank, LENGTH, k, record, sizeof record) != LIVOMASHEN_DONE)
         wrong = 11;
-    else if (livomashen_get(bank, LENGTH, k, MARKS, sizeof MARKS, out, 45) != 0)
+    else if (livomashen_get(bank, LENGTH, k, MARKS, sizeof MARKS, out, 45, window) != 0)
         wrong = 12;
     else if (memcmp(out, record, sizeof record) != 0)
         wrong = 13;
-    else if (livomashen_patrol(bank, LENGTH, k, MARKS, sizeof MARKS) != 0)
+    else if (livomashen_patrol(bank, LENGTH, k, MARKS, sizeof MARKS, window) != 0)
         wrong = 14;
     else if (memcmp(bank + 45 * k, out, 45) != 0)
         wrong = 15;
@@ -80,7 +81,7 @@ static int write_register(uint8_t *registers, uint32_t address, uint8_t value,
                           uint8_t *bank, uint8_t *out)
 {
     return livomashen_write_register(registers, address, value, bank, LENGTH,
-                                     out, 45) == LIVOMASHEN_DONE;
+                                     out, 45, window) == LIVOMASHEN_DONE;
 }
 
 /* Marks and plain registers need no byte of bank and output; a get reads block
@@ -115,6 +116,22 @@ static int registers_beside(void)
     return wrong;
 }
 
+/* A clear needs no byte of the window; after it every byte is written. */
+static int clear_and_propose(void)
+{
+    uint8_t *fresh = unwritten(LIVOMASHEN_WINDOW);
+    livomashen_proposal p;
+    int wrong = 0;
+    if (livomashen_clear_window(fresh) != LIVOMASHEN_DONE
+        || memcmp(fresh, window, LIVOMASHEN_WINDOW) != 0)
+        wrong = 41;
+    p = livomashen_split_proposal(livomashen_propose(fresh, MARKS, sizeof MARKS));
+    if (wrong == 0 && (p.number != 0 || p.chip != LIVOMASHEN_NO_CHIP))
+        wrong = 42;
+    free(fresh);
+    return wrong;
+}
+
 int main(void)
 {
     size_t k;
@@ -123,5 +140,7 @@ int main(void)
         wrong = put_and_get(k);
     if (wrong == 0)
         wrong = clear_and_report();
-    return wrong != 0 ? wrong : registers_beside();
+    if (wrong == 0)
+        wrong = registers_beside();
+    return wrong != 0 ? wrong : clear_and_propose();
 }

@@ -1,4 +1,4 @@
-"""Compares plain.rs with second/reference.py on seeded cases.
+"""Compares plain.rs with second/ on seeded cases.
 
 Usage: python3 use/rust/check_plain.py PROGRAM [--seed N] [--cases N]
 PROGRAM is plain_cases.rs, compiled.  Prints the number of cases, or the first
@@ -16,6 +16,7 @@ sys.path.insert(0, str(Path(__file__).resolve().parents[2] / "second"))
 
 import damage             # noqa: E402
 import reference as ref   # noqa: E402
+import window             # noqa: E402
 
 FILL = 0xA5               # what plain_cases.rs fills its output with
 
@@ -37,13 +38,12 @@ def store_case(rng):
     return line, [f"{answer.number} {output.hex()}"]
 
 
-def read_wanted(block, marks, length):
-    """Every answer that 01 permits: with 11, one for each card that fits."""
-    output = bytearray([FILL]) * length
-    answer = ref.read_into(output, block, marks)
+def permitted(answer, *after):
+    """Every answer that 01 permits, with the bytes after it: with 11, one for
+    each card that fits."""
     cards = answer.cards or {answer.card}
-    return [f"{answer.number} {answer.kind} {card} {answer.n} {output.hex()}"
-            for card in cards]
+    ends = " ".join(part.hex() for part in after)
+    return [f"{answer.number} {answer.kind} {card} {answer.n} {ends}" for card in cards]
 
 
 def read_case(rng, marks=None, block=None):
@@ -51,15 +51,48 @@ def read_case(rng, marks=None, block=None):
     block = damage.damaged_block(rng, marks) if block is None else block
     if rng.random() < 0.05:
         block = rng.randbytes(rng.randrange(91))
-    length = any_length(rng, ref.BLOCK)
-    line = f"read {word(block)} {word(marks)} {length}"
-    return line, read_wanted(block, marks, length)
+    output = bytearray([FILL]) * any_length(rng, ref.BLOCK)
+    line = f"read {word(block)} {word(marks)} {len(output)}"
+    return line, permitted(ref.read_into(output, block, marks), output)
+
+
+def any_bank(rng, blocks=None):
+    """A mark record, and a bank that is cut short one time in ten."""
+    marks, bank = damage.case(rng, blocks)
+    if rng.random() < 0.1:
+        bank = bank[:rng.randrange(len(bank))]
+    return marks, bytearray(bank)
+
+
+def any_block(rng):
+    """The same, and a block that is mostly there, and a window."""
+    marks, bank = any_bank(rng, rng.randrange(1, 4))
+    k = rng.randrange(len(bank) // ref.BLOCK + 1)
+    return marks, bank, k, bytearray(damage.any_window(rng, marks))
+
+
+def get_case(rng):
+    marks, bank, k, held = any_block(rng)
+    output = bytearray([FILL]) * any_length(rng, ref.BLOCK)
+    line = f"get {word(bank)} {k} {word(marks)} {len(output)} {word(held)}"
+    return line, permitted(window.get(bank, k, output, marks, held), output, held)
+
+
+def patrol_case(rng):
+    marks, bank, k, held = any_block(rng)
+    line = f"patrol {word(bank)} {k} {word(marks)} {word(held)}"
+    return line, permitted(window.patrol(bank, k, marks, held), bank, held)
+
+
+def propose_case(rng):
+    marks = damage.any_marks(rng)
+    held = damage.any_window(rng, marks)
+    number, chip = window.propose(held, marks)
+    return f"propose {word(held)} {word(marks)}", [f"{number} {chip}"]
 
 
 def report_case(rng):
-    marks, bank = damage.case(rng)
-    if rng.random() < 0.1:
-        bank = bank[:rng.randrange(len(bank))]
+    marks, bank = any_bank(rng)
     answer, totals = ref.report(bank, marks)
     wanted = [answer.number, *(totals or ())]
     return (f"report {word(bank)} {word(marks)}",
@@ -71,7 +104,8 @@ def cases(rng, count):
     for _, _, marks, block in damage.every_pair(rng):
         yield read_case(rng, marks, block)
     for _ in range(count):
-        make = rng.choices([store_case, read_case, report_case], [3, 12, 1])[0]
+        make = rng.choices([store_case, read_case, get_case, patrol_case,
+                            propose_case, report_case], [3, 8, 2, 2, 4, 1])[0]
         yield make(rng)
 
 
@@ -79,7 +113,7 @@ def main():
     parser = argparse.ArgumentParser(description=__doc__.splitlines()[0])
     parser.add_argument("program")
     parser.add_argument("--seed", type=int, default=1)
-    parser.add_argument("--cases", type=int, default=6000)
+    parser.add_argument("--cases", type=int, default=8000)
     args = parser.parse_args()
     made = list(cases(random.Random(args.seed), args.cases))
     given = "".join(line + "\n" for line, _ in made)
@@ -92,7 +126,7 @@ def main():
         if got not in wanted:
             sys.exit(f"seed {args.seed}: {line}\n  got    {got}\n"
                      f"  wanted {' or '.join(wanted)}")
-    print(f"plain.rs and second/reference.py agree on {len(made)} cases, "
+    print(f"plain.rs and second/ agree on {len(made)} cases, "
           f"seed {args.seed}")
 
 

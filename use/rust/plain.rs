@@ -1,8 +1,12 @@
-//! The call memory of document 01 in plain Rust: storing, reading, report.
+//! The call memory of document 01 in plain Rust: storing, reading, report; and
+//! get, patrol and proposal with order 2's window.
 //!
 //! Written from document 01 for comparison and as the benchmark's baseline.
 //! Ordinary tables of powers and logarithms, no proofs; the shipped library
 //! is the proved one.
+
+#[path = "plain/window.rs"]
+pub mod window;
 
 pub const CARDS: usize = 5;
 pub const CHIPS: usize = 9;
@@ -381,12 +385,18 @@ pub fn read(block: &[u8], marks: &[u8], output: &mut [u8]) -> Answer {
     answer
 }
 
-/// Counts the blocks of a bank by their readings.  Err: 4, 6 or 7.
-pub fn report(bank: &[u8], marks: &[u8]) -> Result<Totals, u8> {
+/// How many blocks a bank has.  Err: 4.
+fn blocks_of(bank: &[u8]) -> Result<usize, u8> {
     let blocks = bank.len() / BLOCK;
     if bank.len() % BLOCK != 0 || !(1..=MOST_BLOCKS).contains(&blocks) {
         return Err(4);
     }
+    Ok(blocks)
+}
+
+/// Counts the blocks of a bank by their readings.  Err: 4, 6 or 7.
+pub fn report(bank: &[u8], marks: &[u8]) -> Result<Totals, u8> {
+    blocks_of(bank)?;
     let marks = Marks::open(marks)?;
     let mut totals = Totals::default();
     for block in bank.chunks_exact(BLOCK) {

@@ -1,12 +1,15 @@
 //! Runs plain.rs on cases from standard input, one a line, for check_plain.py.
 //!
-//! `store RECORD OUTLEN`, `read BLOCK MARKS OUTLEN` and `report BANK MARKS`,
-//! with bytes in hexadecimal and `-` for an empty slice.  The output starts as
-//! OUTLEN bytes 0xA5.  Prints what was said, then the output in hexadecimal.
+//! `store RECORD OUTLEN`, `read BLOCK MARKS OUTLEN`, `report BANK MARKS`,
+//! `get BANK K MARKS OUTLEN WINDOW`, `patrol BANK K MARKS WINDOW` and `propose
+//! WINDOW MARKS`, with bytes in hexadecimal and `-` for an empty slice.  The output
+//! starts as OUTLEN bytes 0xA5.  Prints what was said, then in hexadecimal what may
+//! have been written: output or bank, and window.
 
 #[allow(dead_code)] // this program uses a part of it
 mod plain;
 
+use plain::window::{self, Window};
 use plain::Answer;
 use std::fmt::Write as _;
 use std::io::{self, BufRead, Write as _};
@@ -29,6 +32,10 @@ fn hex(bytes: &[u8]) -> String {
     })
 }
 
+fn window_in(word: &str) -> Window {
+    bytes(word).try_into().expect("64 bytes")
+}
+
 fn said(answer: Answer) -> String {
     match answer {
         Answer::Clean => "0 0 0 0".into(),
@@ -41,7 +48,8 @@ fn said(answer: Answer) -> String {
 }
 
 fn run(words: &[&str]) -> String {
-    let output = |length: &str| vec![0xA5; length.parse().expect("a length")];
+    let number = |word: &str| word.parse().expect("a number");
+    let output = |length: &str| vec![0xA5; number(length)];
     match *words {
         ["store", record, length] => {
             let mut out = output(length);
@@ -53,6 +61,21 @@ fn run(words: &[&str]) -> String {
             let answer = plain::read(&bytes(block), &bytes(marks), &mut out);
             format!("{} {}", said(answer), hex(&out))
         }
+        ["get", bank, k, marks, length, held] => {
+            let (mut out, mut held) = (output(length), window_in(held));
+            let (bank, k, marks) = (bytes(bank), number(k), bytes(marks));
+            let answer = window::get(&bank, k, &marks, &mut out, &mut held);
+            format!("{} {} {}", said(answer), hex(&out), hex(&held))
+        }
+        ["patrol", bank, k, marks, held] => {
+            let (mut bank, mut held) = (bytes(bank), window_in(held));
+            let answer = window::patrol(&mut bank, number(k), &bytes(marks), &mut held);
+            format!("{} {} {}", said(answer), hex(&bank), hex(&held))
+        }
+        ["propose", held, marks] => match window::propose(&window_in(held), &bytes(marks)) {
+            Err(number) => format!("{number} 0"),
+            Ok(chip) => format!("0 {}", chip.unwrap_or(255)),
+        },
         ["report", bank, marks] => match plain::report(&bytes(bank), &bytes(marks)) {
             Err(number) => format!("{number}"),
             Ok(t) => format!(

@@ -1,5 +1,6 @@
 //! Tests of the library through its Rust wrapper: document 01's worked blocks,
-//! the limits, random damage against plain.rs, and order 1's registers.
+//! the limits, random damage against plain.rs, order 1's registers and order 2's
+//! window.
 //!
 //! rustc -O --edition 2021 --test -L DIR -l static=livomashen tests.rs
 
@@ -8,12 +9,16 @@ mod plain;
 #[allow(dead_code)] // the benchmark uses the rest
 mod random;
 
+#[path = "tests/commands.rs"]
+mod commands;
 #[path = "tests/damage.rs"]
 mod damage;
 #[path = "tests/limits.rs"]
 mod limits;
 #[path = "tests/registers.rs"]
 mod registers;
+#[path = "tests/window.rs"]
+mod window;
 #[path = "tests/worked.rs"]
 mod worked;
 

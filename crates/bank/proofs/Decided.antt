@@ -9,6 +9,8 @@ use Rattle.answer.specs.Answer.{Answer, but-card}
 use Rattle.answer.proofs.Causes.{Agreed, by-agree}
 use Rattle.marks.specs.declared.Marks.{Marks}
 use Rattle.reading.proofs.Agree.{under-agree}
+use Rattle.window.specs.Window.{added}
+use Rattle.block.proofs.Decided.{changed-agree}
 use Rattle.bank.specs.Calls.{blocks, block, with-block, clear-cause, put-cause, get-cause, patrol-cause, report-cause}
 use Rattle.bank.specs.Calls.{ClearDone, PutDone, GetDone, PatrolDone, ReportDone}
 use Rattle.bank.proofs.Each.{counts-agree}
@@ -26,18 +28,22 @@ module _ (bank : List ℕ) (a a′ : Answer) (x x′ : List ℕ) where
     w .lent ∙ sym (v .lent),
   )
 
-  pub get-decided : (k : ℕ) (m : Marks) (out y y′ : List ℕ) → GetDone bank k m out a x y → GetDone bank k m out a′ x′ y′ → Agreed a a′ y y′ × (x ≡ x′)
-  get-decided k m out y y′ w v = (
-    by-agree (get-cause (length bank) k m (length out)) a a′ out y y′ _ _ (w .output) (v .output) (under-agree m (block bank k) out a a′ y y′),
-    w .kept ∙ sym (v .kept),
-  )
+  pub get-decided : (k : ℕ) (m : Marks) (out w y y′ z z′ : List ℕ) → GetDone bank k m out w a x y z → GetDone bank k m out w a′ x′ y′ z′
+      → Agreed a a′ y y′ × (x ≡ x′) × (z ≡ z′)
+  get-decided k m out w y y′ z z′ h g =
+      let d = by-agree (get-cause (length bank) k m (length out)) a a′ out y y′ _ _ (h .output) (g .output) (under-agree m (block bank k) out a a′ y y′) in
+      (d, h .kept ∙ sym (g .kept), h .window ∙ ap (added w) (changed-agree a a′ (d .0) (block bank k) y y′ (d .1)) ∙ sym (g .window))
 
-  pub patrol-decided : (k : ℕ) (m : Marks) → PatrolDone bank k m a x → PatrolDone bank k m a′ x′ → Agreed a a′ x x′
-  unfolding PatrolDone
-  patrol-decided k m w v =
-      by-agree (patrol-cause (length bank) k m) a a′ bank x x′ _ _ w v (λ d d′.
+  pub patrol-decided : (k : ℕ) (m : Marks) (w z z′ : List ℕ) → PatrolDone bank k m w a x z → PatrolDone bank k m w a′ x′ z′ → Agreed a a′ x x′ × (z ≡ z′)
+  patrol-decided k m w z z′ h g =
+      let d = by-agree (patrol-cause (length bank) k m) a a′ bank x x′ _ _ (h .mended) (g .mended) (λ d d′.
       let r = under-agree m (block bank k) (block bank k) a a′ (d .0) (d′ .0) (d .1) (d′ .1) in
-      (r .0, d .2 ∙ ap (with-block bank k) (r .1) ∙ sym (d′ .2)))
+      (r .0, d .2 ∙ ap (with-block bank k) (r .1) ∙ sym (d′ .2))) in (
+        d,
+        h .window
+            ∙ ap (added w) (changed-agree a a′ (d .0) (block bank k) (block x k) (block x′ k) (ap (λ (y : List ℕ). block y k) (d .1)))
+            ∙ sym (g .window),
+      )
 
   pub report-decided : (m : Marks) → ReportDone bank m a x → ReportDone bank m a′ x′ → (a ≡ a′) × (x ≡ x′)
   report-decided m w v =

@@ -1,20 +1,20 @@
 -- The calls' contracts, by their causes: refused, so nothing changed; or done on block k.
 --
 --   part           block k as the code takes it; part-is, part-length, back-is: what it is, how long, and the bank with it put back
---   put-back       a block put back as it was
+--   put-back       a block put back as it was; block-back: a block that was put there
 --   ..-refused     a refused call
 --   ..-done        a call on block k, from what the call on that block says
 --   patrol-unread  a patrol that corrects nothing leaves the bank as it was
 --   no-blocks, one-more, report-done   what the report's loop has counted; total-le, class-below: within its limits
 use mathlib.Core.Logic.{_≢_, _⊎_, inl, inr}
-use mathlib.Core.Path.{_≡_, refl, sym, ap, _∙_, subst}
+use mathlib.Core.Path.{_≡_, refl, sym, ap, ap₂, _∙_, subst}
 use mathlib.Core.Bool.{true, false}
 use mathlib.Core.List.{List, [], _++_}
 use Prim.Native.Nat.{ℕ, zero, suc, _+_, _-_, _*_, _<_, _≤_}
 use native.Mathlib.Omega.{arith}
 use lib.Dec.{eqb}
 use lib.ListN.{length, take, drop, replicate, getD, set, take-append-drop, length-take, length-drop, length-set, getD-replicate}
-use lib.Seq.{drop-drop, getD-set-same, getD-set-other}
+use lib.Seq.{drop-drop, take-at, drop-at, length-take-le, getD-set-same, getD-set-other}
 use borrow.Author.Tests.{eq-eqb, ne-eqb}
 use Rattle.base.specs.Base.{tally}
 use Rattle.base.proofs.Tests.{same}
@@ -27,7 +27,9 @@ use Rattle.code.specs.Block.{OneMember, Stored}
 use Rattle.code.specs.Labels.{built-in}
 use Rattle.reading.specs.Reading.{ReadsUnder}
 use Rattle.store.specs.Store.{store-cause, StoreDone}
-use Rattle.block.specs.Read.{read-cause, mend-cause, ReadDone, MendDone, LookDone}
+use Rattle.window.specs.Window.{added}
+use Rattle.window.proofs.Runs.{added-none}
+use Rattle.block.specs.Read.{read-cause, mend-cause, changed-at, NotedDone, MendDone, LookDone}
 use Rattle.block.proofs.Causes.{mend-marks}
 use Rattle.bank.specs.Calls.{blocks, block, with-block, clear-cause, put-cause, get-cause, patrol-cause, report-cause}
 use Rattle.bank.specs.Calls.{ClearDone, PutDone, GetDone, PatrolDone, ReportDone, class, how-many, CountsEach}
@@ -54,6 +56,11 @@ put-back bank k =
     ap (λ (l : List ℕ). take (45 * k) bank ++ (take 45 (drop (45 * k) bank) ++ l)) (sym (drop-drop 45 (45 * k) bank))
     ∙ ap (λ (l : List ℕ). take (45 * k) bank ++ l) (take-append-drop 45 (drop (45 * k) bank)) ∙ take-append-drop (45 * k) bank
 
+pub block-back : (bank : List ℕ) (k : ℕ) (x : List ℕ) → 45 * k ≤ length bank → length x ≡ 45 → block (with-block bank k x) k ≡ x
+block-back bank k x h l =
+    ap (take 45) (drop-at (take (45 * k) bank) (x ++ drop (45 * k + 45) bank) (45 * k) (length-take-le (45 * k) bank h))
+    ∙ take-at x (drop (45 * k + 45) bank) 45 l
+
 -- ---- refused
 pub clear-refused : (bank : List ℕ) (c : ℕ) → clear-cause (length bank) ≡ c → c ≢ 0 → ClearDone bank (refused c) bank
 unfolding ClearDone
@@ -62,13 +69,13 @@ clear-refused bank c e h = by-refused _ c (bank ≡ bank) ((refused c ≡ done) 
 pub put-refused : (bank : List ℕ) (k : ℕ) (rec : List ℕ) (c : ℕ) → put-cause (length bank) k (length rec) ≡ c → c ≢ 0 → PutDone bank k rec (refused c) bank rec
 put-refused bank k rec c e h = record { lent = refl; put = by-refused _ c (bank ≡ bank) _ e h refl }
 
-pub get-refused : (bank : List ℕ) (k : ℕ) (m : Marks) (out : List ℕ) (c : ℕ) → get-cause (length bank) k m (length out) ≡ c → c ≢ 0
-    → GetDone bank k m out (refused c) bank out
-get-refused bank k m out c e h = record { kept = refl; output = by-refused _ c (out ≡ out) _ e h refl }
+pub get-refused : (bank : List ℕ) (k : ℕ) (m : Marks) (out w : List ℕ) (c : ℕ) → get-cause (length bank) k m (length out) ≡ c → c ≢ 0
+    → GetDone bank k m out w (refused c) bank out w
+get-refused bank k m out w c e h = record { kept = refl; output = by-refused _ c (out ≡ out) _ e h refl; window = sym (added-none w) }
 
-pub patrol-refused : (bank : List ℕ) (k : ℕ) (m : Marks) (c : ℕ) → patrol-cause (length bank) k m ≡ c → c ≢ 0 → PatrolDone bank k m (refused c) bank
-unfolding PatrolDone
-patrol-refused bank k m c e h = by-refused _ c (bank ≡ bank) _ e h refl
+pub patrol-refused : (bank : List ℕ) (k : ℕ) (m : Marks) (w : List ℕ) (c : ℕ) → patrol-cause (length bank) k m ≡ c → c ≢ 0
+    → PatrolDone bank k m w (refused c) bank w
+patrol-refused bank k m w c e h = record { mended = by-refused _ c (bank ≡ bank) _ e h refl; window = sym (added-none w) }
 
 pub report-refused : (bank : List ℕ) (m : Marks) (c : ℕ) → report-cause (length bank) m ≡ c → c ≢ 0 → ReportDone bank m (refused c) bank
 report-refused bank m c e h = record { kept = refl; answer = by-refused _ c (Unit {0}) _ e h tt }
@@ -89,27 +96,31 @@ module _ (bank : List ℕ) (k : ℕ) (b : List ℕ) (is : b ≡ block bank k) wh
         (λ u. q ∙ ap (with-block bank k) (u ∙ is) ∙ put-back bank k) (λ z d. (d .0, (x, d .1, q))) (w .by-cause));
   }
 
-  pub get-done : (m : Marks) (out : List ℕ) (a : Answer) (b′ out′ : List ℕ) → get-cause (length bank) k m (length out) ≡ read-cause (length b) m (length out)
-      → ReadDone b m out a b′ out′ → GetDone bank k m out a bank out′
-  get-done m out a b′ out′ e w = record {
+  pub get-done : (m : Marks) (out w : List ℕ) (a : Answer) (b′ out′ w′ : List ℕ)
+      → get-cause (length bank) k m (length out) ≡ read-cause (length b) m (length out) → NotedDone b m out w a b′ out′ w′
+      → GetDone bank k m out w a bank out′ w′
+  get-done m out w a b′ out′ w′ e v = record {
     kept = refl;
     output = subst (λ (n : ℕ). By n a (out′ ≡ out) (ReadsUnder m (block bank k) out a out′)) (sym e)
         (by-map (read-cause (length b) m (length out)) a (out′ ≡ out) (ReadsUnder m b out a out′) (out′ ≡ out) _
-        (λ u. u) (λ z d. subst (λ (l : List ℕ). ReadsUnder m l out a out′) is d) (w .output));
+        (λ u. u) (λ z d. subst (λ (l : List ℕ). ReadsUnder m l out a out′) is d) (v .read .output));
+    window = v .window ∙ ap (λ (l : List ℕ). added w (changed-at a l out′)) is;
   }
 
-  pub patrol-done : (m : Marks) (a : Answer) (x bank′ : List ℕ) → patrol-cause (length bank) k m ≡ mend-cause (length b) m → MendDone b m a x
-      → bank′ ≡ with-block bank k x → PatrolDone bank k m a bank′
-  unfolding PatrolDone MendDone
-  patrol-done m a x bank′ e w q =
-      subst (λ (n : ℕ). By n a (bank′ ≡ bank) ((y : List ℕ) × ReadsUnder m (block bank k) (block bank k) a y × (bank′ ≡ with-block bank k y))) (sym e)
-      (by-map (mend-cause (length b) m) a (x ≡ b) (ReadsUnder m b b a x) (bank′ ≡ bank) _
-      (λ u. q ∙ ap (with-block bank k) (u ∙ is) ∙ put-back bank k) (λ z d. (x, subst (λ (l : List ℕ). ReadsUnder m l l a x) is d, q)) w)
+  pub patrol-done : (m : Marks) (w : List ℕ) (a : Answer) (x bank′ w′ : List ℕ) → patrol-cause (length bank) k m ≡ mend-cause (length b) m
+      → MendDone b m w a x w′ → bank′ ≡ with-block bank k x → 45 * k ≤ length bank → length x ≡ 45 → PatrolDone bank k m w a bank′ w′
+  patrol-done m w a x bank′ w′ e v q h l = record {
+    mended = subst (λ (n : ℕ). By n a (bank′ ≡ bank) ((y : List ℕ) × ReadsUnder m (block bank k) (block bank k) a y × (bank′ ≡ with-block bank k y))) (sym e)
+        (by-map (mend-cause (length b) m) a (x ≡ b) (ReadsUnder m b b a x) (bank′ ≡ bank) _
+        (λ u. q ∙ ap (with-block bank k) (u ∙ is) ∙ put-back bank k) (λ z d. (x, subst (λ (l : List ℕ). ReadsUnder m l l a x) is d, q)) (v .block));
+    window =
+        v .window ∙ ap₂ (λ (y z : List ℕ). added w (changed-at a y z)) is (sym (ap (λ (y : List ℕ). block y k) q ∙ block-back bank k x h l));
+  }
 
 -- a patrol that corrects nothing leaves the bank as it was
-pub patrol-unread : (bank : List ℕ) (k : ℕ) (m : Marks) (a : Answer) (bank′ : List ℕ) → PatrolDone bank k m a bank′ → number a ≢ 0 → bank′ ≡ bank
-unfolding PatrolDone
-patrol-unread bank k m a bank′ w n = go (patrol-cause (length bank) k m) w
+pub patrol-unread : (bank : List ℕ) (k : ℕ) (m : Marks) (w : List ℕ) (a : Answer) (bank′ w′ : List ℕ) → PatrolDone bank k m w a bank′ w′ → number a ≢ 0
+    → bank′ ≡ bank
+patrol-unread bank k m v a bank′ w′ w n = go (patrol-cause (length bank) k m) (w .mended)
   where
     same-block : (a : Answer) (x : List ℕ) → number a ≢ 0 → ReadsUnder m (block bank k) (block bank k) a x → x ≡ block bank k
     same-block clean x n h = absurd (n refl)

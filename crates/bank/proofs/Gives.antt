@@ -29,18 +29,18 @@ unfolding put-cause
 put-gives bank k rec a bank′ rec′ w =
     done-gives (cause 3 (not (eqb (length rec) 34)) ∷ place-causes (length bank) k) (omega arith, (omega arith, (omega arith, tt))) a _ _ (w .put)
 
-pub get-gives : (bank : List ℕ) (k : ℕ) (m : Marks) (out : List ℕ) (a : Answer) (bank′ out′ : List ℕ) → GetDone bank k m out a bank′ out′
+pub get-gives : (bank : List ℕ) (k : ℕ) (m : Marks) (out w : List ℕ) (a : Answer) (bank′ out′ w′ : List ℕ) → GetDone bank k m out w a bank′ out′ w′
     → Readings (2 ∷ 4 ∷ 5 ∷ 6 ∷ 7 ∷ 10 ∷ []) a
 unfolding get-cause
-get-gives bank k m out a bank′ out′ w =
+get-gives bank k m out w a bank′ out′ w′ h =
     read-by (cause 2 (not (eqb (length out) 45)) ∷ place-causes (length bank) k) (omega arith, (omega arith, (omega arith, tt))) m (block bank k) a _ _
-    (λ d. (out, out′, d)) (w .output)
+    (λ d. (out, out′, d)) (h .output)
 
-pub patrol-gives : (bank : List ℕ) (k : ℕ) (m : Marks) (a : Answer) (bank′ : List ℕ) → PatrolDone bank k m a bank′
+pub patrol-gives : (bank : List ℕ) (k : ℕ) (m : Marks) (w : List ℕ) (a : Answer) (bank′ w′ : List ℕ) → PatrolDone bank k m w a bank′ w′
     → Readings (4 ∷ 5 ∷ 6 ∷ 7 ∷ 10 ∷ []) a
-unfolding PatrolDone patrol-cause
-patrol-gives bank k m a bank′ w =
-    read-by (place-causes (length bank) k) (omega arith, (omega arith, tt)) m (block bank k) a _ _ (λ d. (block bank k, d .0, d .1)) w
+unfolding patrol-cause
+patrol-gives bank k m w a bank′ w′ h =
+    read-by (place-causes (length bank) k) (omega arith, (omega arith, tt)) m (block bank k) a _ _ (λ d. (block bank k, d .0, d .1)) (h .mended)
 
 -- ---- a report: no total is above the number of blocks
 pub report-gives : (bank : List ℕ) (m : Marks) (a : Answer) (bank′ : List ℕ) → ReportDone bank m a bank′ → Reports (4 ∷ 6 ∷ 7 ∷ []) a

@@ -43,22 +43,23 @@ put-tied κs a r s l = l
 pub put-asks : (κs : Lifetimes.Lfts 2) (a : World.ArgsD put.signature κs) → put-reads.Asked κs a
 put-asks κs a = tt
 
--- get: bank, block number, marks, output
-pub get-tied : (κs : Lifetimes.Lfts 2) (a : World.ArgsD get.signature κs) (r : World.ResD get.signature κs)
-    (s : Clauses.AtExit (Kinds.endedOf 2 get-kinds.ps get-kinds.r) κs) → get-reads.Learnt κs a r s
-    → GetDone (now (a .0)) (a .1 .0) (a .1 .1 .0) (now (a .1 .1 .1 .0)) (reading-answer r) (now (s .0)) (now (s .1 .1 .1 .0))
+-- get: bank, block number, marks, output, window
+pub get-tied : (κs : Lifetimes.Lfts 3) (a : World.ArgsD get.signature κs) (r : World.ResD get.signature κs)
+    (s : Clauses.AtExit (Kinds.endedOf 3 get-kinds.ps get-kinds.r) κs) → get-reads.Learnt κs a r s
+    → GetDone (now (a .0)) (a .1 .0) (a .1 .1 .0) (now (a .1 .1 .1 .0)) (now (a .1 .1 .1 .1 .0)) (reading-answer r) (now (s .0)) (now (s .1 .1 .1 .0))
+    (now (s .1 .1 .1 .1 .0))
 get-tied κs a r s l = l
 
-pub get-asks : (κs : Lifetimes.Lfts 2) (a : World.ArgsD get.signature κs) → get-reads.Asked κs a
+pub get-asks : (κs : Lifetimes.Lfts 3) (a : World.ArgsD get.signature κs) → get-reads.Asked κs a
 get-asks κs a = tt
 
--- patrol: bank, block number, marks
-pub patrol-tied : (κs : Lifetimes.Lfts 1) (a : World.ArgsD patrol.signature κs) (r : World.ResD patrol.signature κs)
-    (s : Clauses.AtExit (Kinds.endedOf 1 patrol-kinds.ps patrol-kinds.r) κs) → patrol-reads.Learnt κs a r s
-    → PatrolDone (now (a .0)) (a .1 .0) (a .1 .1 .0) (reading-answer r) (now (s .0))
+-- patrol: bank, block number, marks, window
+pub patrol-tied : (κs : Lifetimes.Lfts 2) (a : World.ArgsD patrol.signature κs) (r : World.ResD patrol.signature κs)
+    (s : Clauses.AtExit (Kinds.endedOf 2 patrol-kinds.ps patrol-kinds.r) κs) → patrol-reads.Learnt κs a r s
+    → PatrolDone (now (a .0)) (a .1 .0) (a .1 .1 .0) (now (a .1 .1 .1 .0)) (reading-answer r) (now (s .0)) (now (s .1 .1 .1 .0))
 patrol-tied κs a r s l = l
 
-pub patrol-asks : (κs : Lifetimes.Lfts 1) (a : World.ArgsD patrol.signature κs) → patrol-reads.Asked κs a
+pub patrol-asks : (κs : Lifetimes.Lfts 2) (a : World.ArgsD patrol.signature κs) → patrol-reads.Asked κs a
 patrol-asks κs a = tt
 
 -- report: bank, marks

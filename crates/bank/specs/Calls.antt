@@ -20,6 +20,8 @@ use Rattle.marks.specs.declared.Marks.{Marks}
 use Rattle.code.specs.Block.{OneMember, Stored}
 use Rattle.code.specs.Labels.{built-in}
 use Rattle.reading.specs.Reading.{ReadsUnder}
+use Rattle.window.specs.Window.{added}
+use Rattle.block.specs.Read.{changed-at}
 use Rattle.bank.specs.declared.Reported.{Reported}
 use Rattle.bank.specs.declared.Reported.the-variants.{Counted, Refused}
 
@@ -76,15 +78,17 @@ pub record PutDone (bank : List ℕ) (k : ℕ) (rec : List ℕ) (a : Answer) (ba
       ((a ≡ done) × ((x : List ℕ) × OneMember (Stored built-in rec) x × (bank′ ≡ with-block bank k x)))
 
 -- ---- get: a reading of block k; where it is corrected the output holds the corrected block. "A get never alters the bank."
-pub record GetDone (bank : List ℕ) (k : ℕ) (m : Marks) (out : List ℕ) (a : Answer) (bank′ out′ : List ℕ) : Type 0 where
+-- order 2: the positions at which they differ are added to the window w
+pub record GetDone (bank : List ℕ) (k : ℕ) (m : Marks) (out w : List ℕ) (a : Answer) (bank′ out′ w′ : List ℕ) : Type 0 where
   pub kept : bank′ ≡ bank
   pub output : By (get-cause (length bank) k m (length out)) a (out′ ≡ out) (ReadsUnder m (block bank k) out a out′)
+  pub window : w′ ≡ added w (changed-at a (block bank k) out′)
 
--- ---- patrol: a reading of block k whose output is put back in its place
-unfoldable pub PatrolDone : List ℕ → ℕ → Marks → Answer → List ℕ → Type 0
-PatrolDone bank k m a bank′ =
-    By (patrol-cause (length bank) k m) a (bank′ ≡ bank)
-    ((x : List ℕ) × ReadsUnder m (block bank k) (block bank k) a x × (bank′ ≡ with-block bank k x))
+-- ---- patrol: a reading of block k whose output is put back in its place; the positions at which the block differs after it are added
+pub record PatrolDone (bank : List ℕ) (k : ℕ) (m : Marks) (w : List ℕ) (a : Answer) (bank′ w′ : List ℕ) : Type 0 where
+  pub mended : By (patrol-cause (length bank) k m) a (bank′ ≡ bank)
+      ((x : List ℕ) × ReadsUnder m (block bank k) (block bank k) a x × (bank′ ≡ with-block bank k x))
+  pub window : w′ ≡ added w (changed-at a (block bank k) (block bank′ k))
 
 -- ---- report: how many blocks read as clean, chips, card, none and several
 -- 0 clean, 1 chips, 2 card, 3 none, 4 several; a reading that isn't refused by its arguments gives nothing else

@@ -93,9 +93,16 @@ pub fn put(bank: &mut [u8], k: usize, rec: &[u8]) -> answer::Outcome
     store::store(rec, &mut bank[to..end])
 }
 
-// Reads block k into the output; the bank is not altered.
-pub fn get(bank: &[u8], k: usize, m: marks::Marks, out: &mut [u8]) -> reading::Reading
-    ensures { λ r. ⌜ GetDone (now (bank .entry)) k m (now (out .entry)) (reading-answer r) (now (bank .exit)) (now (out .exit)) ⌝ }
+// Reads block k into the output; the bank is not altered. The positions that are changed are added to the window.
+pub fn get(
+    bank: &[u8],
+    k: usize,
+    m: marks::Marks,
+    out: &mut [u8],
+    w: &mut [u8; 64],
+) -> reading::Reading
+    ensures { λ r.
+        ⌜ GetDone (now (bank .entry)) k m (now (out .entry)) (now (w .entry)) (reading-answer r) (now (bank .exit)) (now (out .exit)) (now (w .exit)) ⌝ }
 {
     if out.len() != 45 {
         return reading::Reading::Refused(2);
@@ -106,12 +113,12 @@ pub fn get(bank: &[u8], k: usize, m: marks::Marks, out: &mut [u8]) -> reading::R
     }
     let from = 45 * k;
     let end = from + 45;
-    block::read(&bank[from..end], m, out)
+    block::read_noted(&bank[from..end], m, out, w)
 }
 
-// Reads block k, and puts the corrected bytes back.
-pub fn patrol(bank: &mut [u8], k: usize, m: marks::Marks) -> reading::Reading
-    ensures { λ r. ⌜ PatrolDone (now (bank .entry)) k m (reading-answer r) (now (bank .exit)) ⌝ }
+// Reads block k, and puts the corrected bytes back. The positions that are changed are added to the window.
+pub fn patrol(bank: &mut [u8], k: usize, m: marks::Marks, w: &mut [u8; 64]) -> reading::Reading
+    ensures { λ r. ⌜ PatrolDone (now (bank .entry)) k m (now (w .entry)) (reading-answer r) (now (bank .exit)) (now (w .exit)) ⌝ }
 {
     let cause = place_cause(bank.len(), k);
     if cause != 0 {
@@ -119,7 +126,7 @@ pub fn patrol(bank: &mut [u8], k: usize, m: marks::Marks) -> reading::Reading
     }
     let start = 45 * k;
     let end = start + 45;
-    block::mend(&mut bank[start..end], m)
+    block::mend(&mut bank[start..end], m, w)
 }
 
 fn kind_class(kind: reading::Kind) -> usize

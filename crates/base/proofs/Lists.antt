@@ -1,13 +1,18 @@
--- Membership in a list, as a fact and as a test.
+-- Membership in a list, as a fact and as a test; a list copied over another.
 --
 --   in-is-in, is-in-in   the test passes exactly for the members
 --   append-in            a member of one list or of the other is one of both together
+--   copied               bytes copied over as many; drop-replicate: what is left of n times a
 use mathlib.Core.Logic.{_⊎_, inl, inr}
-use mathlib.Core.Path.{_≡_, refl, sym, ap, _∙_, subst}
+use mathlib.Core.Path.{_≡_, refl, sym, ap, ap₂, _∙_, subst}
 use mathlib.Core.Bool.{Bool, true, false, _||_}
-use mathlib.Core.List.{List, [], _∷_, _++_}
-use Prim.Native.Nat.{ℕ}
+use mathlib.Core.List.{List, [], _∷_, _++_, append-nil}
+use Prim.Native.Nat.{ℕ, zero, suc, _-_}
+use native.Mathlib.Nat.{sub-zero, zero-sub, suc-sub-suc}
+use native.Mathlib.Omega.{arith}
 use lib.Dec.{T, eqb}
+use lib.ListN.{length, take, drop, replicate, drop-of-length-le}
+use lib.Seq.{take-length}
 use borrow.Author.Tests.{eqb-true, eq-eqb}
 use Rattle.base.specs.Base.{In, is-in}
 
@@ -34,3 +39,13 @@ append-in p [] k (inr i) = i
 append-in p (a ∷ l) k (inl (inl e)) = inl e
 append-in p (a ∷ l) k (inl (inr i)) = inr (append-in p l k (inl i))
 append-in p (a ∷ l) k (inr i) = inr (append-in p l k (inr i))
+
+-- bytes copied over as many
+pub copied : (from to a : List ℕ) → length to ≡ length from → a ≡ take (length from) from ++ drop (length from) to → a ≡ from
+copied from to a l e =
+    e ∙ ap₂ (λ (u v : List ℕ). u ++ v) (take-length from) (drop-of-length-le to {i = length from} (omega (arith, l))) ∙ append-nil from
+
+pub drop-replicate : (n m a : ℕ) → drop n (replicate m a) ≡ replicate (m - n) a
+drop-replicate zero m a = ap (λ (k : ℕ). replicate k a) (sym (sub-zero m))
+drop-replicate (suc n) zero a = ap (λ (k : ℕ). replicate k a) (sym (zero-sub (suc n)))
+drop-replicate (suc n) (suc m) a = drop-replicate n m a ∙ ap (λ (k : ℕ). replicate k a) (sym (suc-sub-suc m n))

@@ -2,10 +2,10 @@
 use mathlib.Core.Logic.{_≢_, _⊎_, inl, inr}
 use mathlib.Core.Path.{_≡_, refl, sym, subst}
 use mathlib.Core.Bool.{Bool, true, false, _&&_, _||_, false≢true, true≢false}
-use Prim.Native.Nat.{ℕ, zero, suc, _<_}
+use Prim.Native.Nat.{ℕ, zero, suc, _<_, _≤_}
 use native.Mathlib.Nat.{not-suc-le-zero, le-of-suc-le-suc, eq-or-lt-of-le, lt-suc-self, lt-trans}
-use lib.Dec.{T, eqb}
-use borrow.Author.Tests.{eqb-true, eqb-false}
+use lib.Dec.{T, eqb, ltb}
+use borrow.Author.Tests.{eqb-true, eqb-false, ltb-true, ltb-false}
 
 -- what holds below n and at n holds below n + 1
 pub below-suc : (P : ℕ → Type 0) (n : ℕ) → P n → ((j : ℕ) → j < n → P j) → (j : ℕ) → j < suc n → P j
@@ -22,6 +22,13 @@ same a b = pick (eqb a b) refl
     pick true e = inl (eqb-true a b e)
     pick false e = inr (eqb-false a b e)
 
+pub lt-or-le : (a b : ℕ) → (a < b) ⊎ (b ≤ a)
+lt-or-le a b = go (ltb a b) refl
+  where
+    go : (t : Bool) → ltb a b ≡ t → (a < b) ⊎ (b ≤ a)
+    go true e = inl (ltb-true a b e)
+    go false e = inr (ltb-false a b e)
+
 -- ---- a joined test, taken apart
 pub and-true : (s t : Bool) → (s && t) ≡ true → (s ≡ true) × (t ≡ true)
 and-true true t e = (refl, e)
@@ -30,6 +37,19 @@ and-true false t e = absurd (false≢true e)
 pub or-false : (s t : Bool) → (s || t) ≡ false → (s ≡ false) × (t ≡ false)
 or-false true t e = absurd (true≢false e)
 or-false false t e = (refl, e)
+
+-- ---- joined with a test that is known
+pub and-no : (t : Bool) → t && false ≡ false
+and-no true = refl
+and-no false = refl
+
+pub and-yes : (t : Bool) → t && true ≡ t
+and-yes true = refl
+and-yes false = refl
+
+pub or-no : (t : Bool) → t || false ≡ t
+or-no true = refl
+or-no false = refl
 
 -- ---- both, either
 abbrev pub both : Bool → Bool → Bool

@@ -1,15 +1,35 @@
 -- What a call on a block does is decided: two outcomes on the same bytes agree in the answer, but for the card with 11, and in every byte.
 --
---   read-decided, mend-decided, look-decided
+--   read-decided, noted-decided, mend-decided, look-decided
+--   changed-agree, unread-window   what is added to a window; on a refusal nothing
 use Prim.Native.Nat.{ℕ}
-use mathlib.Core.Path.{_≡_, sym, _∙_}
+use mathlib.Core.Path.{_≡_, refl, sym, ap, ap₂, _∙_}
+use mathlib.Core.Bool.{Bool}
+use mathlib.Core.Logic.{_≢_}
 use mathlib.Core.List.{List, []}
 use lib.ListN.{length}
-use Rattle.answer.specs.Answer.{Answer}
+use Rattle.base.specs.Base.{if}
+use Rattle.answer.specs.Answer.{Answer, done, clean, in-chips, in-card, counted, refused, refused-card, number, but-card}
 use Rattle.answer.proofs.Causes.{Agreed, by-agree, by-same}
+use Rattle.code.specs.Block.{differing}
 use Rattle.marks.specs.declared.Marks.{Marks}
 use Rattle.reading.proofs.Agree.{under-agree}
-use Rattle.block.specs.Read.{read-cause, mend-cause, ReadDone, MendDone, LookDone}
+use Rattle.window.specs.Window.{added}
+use Rattle.window.proofs.Runs.{added-none}
+use Rattle.block.specs.Read.{read-cause, mend-cause, ReadDone, NotedDone, MendDone, LookDone, is-corrected, changed-at}
+
+-- the card of a refusal says nothing of it
+corrected-agree : (a a′ : Answer) → but-card a ≡ but-card a′ → is-corrected a ≡ is-corrected a′
+corrected-agree a a′ e = sym (same a) ∙ ap is-corrected e ∙ same a′
+  where
+    same : (x : Answer) → is-corrected (but-card x) ≡ is-corrected x
+    same done = refl
+    same clean = refl
+    same (in-chips n) = refl
+    same (in-card j n) = refl
+    same (counted i j k n o) = refl
+    same (refused n) = refl
+    same (refused-card n j) = refl
 
 pub read-decided : (b : List ℕ) (m : Marks) (out : List ℕ) (a a′ : Answer) (x x′ y y′ : List ℕ) → ReadDone b m out a x y → ReadDone b m out a′ x′ y′
     → Agreed a a′ y y′ × (x ≡ x′)
@@ -18,9 +38,31 @@ read-decided b m out a a′ x x′ y y′ w v = (
   w .received ∙ sym (v .received),
 )
 
-pub mend-decided : (b : List ℕ) (m : Marks) (a a′ : Answer) (x x′ : List ℕ) → MendDone b m a x → MendDone b m a′ x′ → Agreed a a′ x x′
-unfolding MendDone
-mend-decided b m a a′ x x′ w v = by-agree (mend-cause (length b) m) a a′ b x x′ _ _ w v (under-agree m b b a a′ x x′)
+-- a refusal adds nothing
+pub unread-window : (a : Answer) (w b x : List ℕ) → number a ≢ 0 → added w (changed-at a b x) ≡ w
+unread-window clean w b x n = absurd (n refl)
+unread-window (in-chips i) w b x n = absurd (n refl)
+unread-window (in-card j i) w b x n = absurd (n refl)
+unread-window done w b x n = absurd (n refl)
+unread-window (counted i j k l o) w b x n = absurd (n refl)
+unread-window (refused i) w b x n = added-none w
+unread-window (refused-card i j) w b x n = added-none w
+
+-- what is added is decided by the answer, but for its card, and the bytes
+pub changed-agree : (a a′ : Answer) → but-card a ≡ but-card a′ → (b x x′ : List ℕ) → x ≡ x′ → changed-at a b x ≡ changed-at a′ b x′
+changed-agree a a′ e b x x′ q = ap₂ (λ (t : Bool) (y : List ℕ). if t (differing b y) []) (corrected-agree a a′ e) q
+
+pub noted-decided : (b : List ℕ) (m : Marks) (out w : List ℕ) (a a′ : Answer) (x x′ y y′ z z′ : List ℕ) → NotedDone b m out w a x y z
+    → NotedDone b m out w a′ x′ y′ z′ → Agreed a a′ y y′ × (x ≡ x′) × (z ≡ z′)
+noted-decided b m out w a a′ x x′ y y′ z z′ h g =
+    let d = read-decided b m out a a′ x x′ y y′ (h .read) (g .read) in
+    (d .0, d .1, h .window ∙ ap (added w) (changed-agree a a′ (d .0 .0) b y y′ (d .0 .1)) ∙ sym (g .window))
+
+pub mend-decided : (b : List ℕ) (m : Marks) (w : List ℕ) (a a′ : Answer) (x x′ z z′ : List ℕ) → MendDone b m w a x z → MendDone b m w a′ x′ z′
+    → Agreed a a′ x x′ × (z ≡ z′)
+mend-decided b m w a a′ x x′ z z′ h g =
+    let d = by-agree (mend-cause (length b) m) a a′ b x x′ _ _ (h .block) (g .block) (under-agree m b b a a′ x x′) in
+    (d, h .window ∙ ap (added w) (changed-agree a a′ (d .0) b x x′ (d .1)) ∙ sym (g .window))
 
 pub look-decided : (b : List ℕ) (m : Marks) (a a′ : Answer) (x x′ : List ℕ) → LookDone b m a x → LookDone b m a′ x′ → Agreed a a′ x x′
 look-decided b m a a′ x x′ w v = (

@@ -8,10 +8,13 @@ use denote.Triple.Clauses
 use denote.Ref.{now}
 use mathlib.Core.Path.{_≡_}
 use Rattle.reading.specs.Reading.{reading-answer}
-use Rattle.block.specs.Read.{ReadDone, MendDone, LookDone, record-in}
+use Rattle.block.specs.Read.{ReadDone, NotedDone, MendDone, LookDone, record-in}
 use Rattle.block.proofs.read as read
 use Rattle.block.proofs.read.Kinds as read-kinds
 use Rattle.block.proofs.read.Reads as read-reads
+use Rattle.block.proofs.read_noted as read-noted
+use Rattle.block.proofs.read_noted.Kinds as read-noted-kinds
+use Rattle.block.proofs.read_noted.Reads as read-noted-reads
 use Rattle.block.proofs.mend as mend
 use Rattle.block.proofs.mend.Kinds as mend-kinds
 use Rattle.block.proofs.mend.Reads as mend-reads
@@ -31,13 +34,22 @@ read-tied κs a r s l = l
 pub read-asks : (κs : Lifetimes.Lfts 2) (a : World.ArgsD read.signature κs) → read-reads.Asked κs a
 read-asks κs a = tt
 
--- mend: block, marks
-pub mend-tied : (κs : Lifetimes.Lfts 1) (a : World.ArgsD mend.signature κs) (r : World.ResD mend.signature κs)
-    (s : Clauses.AtExit (Kinds.endedOf 1 mend-kinds.ps mend-kinds.r) κs) → mend-reads.Learnt κs a r s
-    → MendDone (now (a .0)) (a .1 .0) (reading-answer r) (now (s .0))
+-- read_noted: received block, marks, output, window
+pub read-noted-tied : (κs : Lifetimes.Lfts 3) (a : World.ArgsD read-noted.signature κs) (r : World.ResD read-noted.signature κs)
+    (s : Clauses.AtExit (Kinds.endedOf 3 read-noted-kinds.ps read-noted-kinds.r) κs) → read-noted-reads.Learnt κs a r s
+    → NotedDone (now (a .0)) (a .1 .0) (now (a .1 .1 .0)) (now (a .1 .1 .1 .0)) (reading-answer r) (now (s .0)) (now (s .1 .1 .0)) (now (s .1 .1 .1 .0))
+read-noted-tied κs a r s l = l
+
+pub read-noted-asks : (κs : Lifetimes.Lfts 3) (a : World.ArgsD read-noted.signature κs) → read-noted-reads.Asked κs a
+read-noted-asks κs a = tt
+
+-- mend: block, marks, window
+pub mend-tied : (κs : Lifetimes.Lfts 2) (a : World.ArgsD mend.signature κs) (r : World.ResD mend.signature κs)
+    (s : Clauses.AtExit (Kinds.endedOf 2 mend-kinds.ps mend-kinds.r) κs) → mend-reads.Learnt κs a r s
+    → MendDone (now (a .0)) (a .1 .0) (now (a .1 .1 .0)) (reading-answer r) (now (s .0)) (now (s .1 .1 .0))
 mend-tied κs a r s l = l
 
-pub mend-asks : (κs : Lifetimes.Lfts 1) (a : World.ArgsD mend.signature κs) → mend-reads.Asked κs a
+pub mend-asks : (κs : Lifetimes.Lfts 2) (a : World.ArgsD mend.signature κs) → mend-reads.Asked κs a
 mend-asks κs a = tt
 
 -- look: block, marks

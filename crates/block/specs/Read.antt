@@ -2,7 +2,10 @@
 --
 --   read-cause, mend-cause   the number of the refusal, 0 where nothing is refused
 --   ReadDone       a block read into an output
---   MendDone       a block read, and the corrected bytes put in its place
+--   is-corrected   the answers of a block that is corrected
+--   changed-at     the positions that a corrected block differs at from the one that was read; on a refusal none
+--   NotedDone      a block read into an output, with these positions added to a window
+--   MendDone       a block read, the corrected bytes put in its place, and their positions added to a window
 --   LookDone       a block read, and nothing written
 --   record-in      the record as a part of the output
 use Prim.Native.Nat.{ℕ}
@@ -14,9 +17,11 @@ use lib.ListN.{length, take}
 use Rattle.base.specs.Base.{if}
 use Rattle.answer.specs.Answer.{Answer, done, clean, in-chips, in-card, counted, refused, refused-card, By}
 use Rattle.answer.specs.Cause.{cause, lowest}
+use Rattle.code.specs.Block.{differing}
 use Rattle.marks.specs.Marks.{marks-causes}
 use Rattle.marks.specs.declared.Marks.{Marks}
 use Rattle.reading.specs.Reading.{ReadsUnder}
+use Rattle.window.specs.Window.{added}
 
 -- 1: the block received is not 45 bytes; 2: the output is not; 6 and 7: the marks are not lawful
 unfoldable pub read-cause : ℕ → Marks → ℕ → ℕ
@@ -25,20 +30,6 @@ read-cause n m o = lowest (cause 1 (not (eqb n 45)) ∷ cause 2 (not (eqb o 45))
 unfoldable pub mend-cause : ℕ → Marks → ℕ
 mend-cause n m = lowest (cause 1 (not (eqb n 45)) ∷ marks-causes m)
 
--- a primed name is what the bytes hold after the call
-pub record ReadDone (b : List ℕ) (m : Marks) (out : List ℕ) (a : Answer) (b′ out′ : List ℕ) : Type 0 where
-  pub received : b′ ≡ b
-  pub output : By (read-cause (length b) m (length out)) a (out′ ≡ out) (ReadsUnder m b out a out′)
-
--- as a reading whose output is the block itself
-unfoldable pub MendDone : List ℕ → Marks → Answer → List ℕ → Type 0
-MendDone b m a b′ = By (mend-cause (length b) m) a (b′ ≡ b) (ReadsUnder m b b a b′)
-
-pub record LookDone (b : List ℕ) (m : Marks) (a : Answer) (b′ : List ℕ) : Type 0 where
-  pub received : b′ ≡ b
-  pub answer : By (mend-cause (length b) m) a (Unit {0}) ((x : List ℕ) × ReadsUnder m b [] a x)
-
--- "the first 34 bytes of that same output", empty on a refusal, and "of an output that is not 45 bytes it is empty"
 abbrev pub is-corrected : Answer → Bool
 is-corrected done = false
 is-corrected clean = true
@@ -48,5 +39,28 @@ is-corrected (counted v w x y z) = false
 is-corrected (refused n) = false
 is-corrected (refused-card n j) = false
 
+-- document 02, order 2: "each corrected get or patrol .. adds its changed positions, lowest first"
+abbrev pub changed-at : Answer → List ℕ → List ℕ → List ℕ
+changed-at a b x = if (is-corrected a) (differing b x) []
+
+-- a primed name is what the bytes hold after the call
+pub record ReadDone (b : List ℕ) (m : Marks) (out : List ℕ) (a : Answer) (b′ out′ : List ℕ) : Type 0 where
+  pub received : b′ ≡ b
+  pub output : By (read-cause (length b) m (length out)) a (out′ ≡ out) (ReadsUnder m b out a out′)
+
+pub record NotedDone (b : List ℕ) (m : Marks) (out w : List ℕ) (a : Answer) (b′ out′ w′ : List ℕ) : Type 0 where
+  pub read : ReadDone b m out a b′ out′
+  pub window : w′ ≡ added w (changed-at a b out′)
+
+-- as a reading whose output is the block itself
+pub record MendDone (b : List ℕ) (m : Marks) (w : List ℕ) (a : Answer) (b′ w′ : List ℕ) : Type 0 where
+  pub block : By (mend-cause (length b) m) a (b′ ≡ b) (ReadsUnder m b b a b′)
+  pub window : w′ ≡ added w (changed-at a b b′)
+
+pub record LookDone (b : List ℕ) (m : Marks) (a : Answer) (b′ : List ℕ) : Type 0 where
+  pub received : b′ ≡ b
+  pub answer : By (mend-cause (length b) m) a (Unit {0}) ((x : List ℕ) × ReadsUnder m b [] a x)
+
+-- "the first 34 bytes of that same output", empty on a refusal, and "of an output that is not 45 bytes it is empty"
 unfoldable pub record-in : List ℕ → Answer → List ℕ
 record-in out a = if (eqb (length out) 45) (if (is-corrected a) (take 34 out) []) []

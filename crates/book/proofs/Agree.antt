@@ -2,7 +2,7 @@
 -- that card in byte 5.
 --
 --   write-alike, step-alike, alike   one register write, one entry, any list, of alike books
---   one-book              THE STATEMENT
+--   one-book              THE STATEMENT; but-card-keeps, but-card-run: it leaves out nothing but the card
 --   one-after             two bookings of all that is seen end in one book
 use Prim.Native.Nat.{ℕ, zero, suc, _/_, _%_}
 use mathlib.Core.Path.{_≡_, refl, sym, ap, ap₂, _∙_, subst}
@@ -14,6 +14,7 @@ use lib.ListN.{getD, set}
 use lib.Seq.{getD-set-other, set-comm}
 use Rattle.base.specs.Base.{if}
 use Rattle.answer.specs.Answer.{Answer, done, but-card, By}
+use Rattle.window.specs.Window.{last-64, window-of, proposal}
 use Rattle.registers.specs.Registers.{register, without-bits, raised}
 use Rattle.registers.specs.Write.{command-of, stored, write-cause}
 use Rattle.registers.specs.Plain.{but-card-registers}
@@ -21,8 +22,8 @@ use Rattle.registers.specs.declared.Registers.{Registers}
 use Rattle.registers.specs.declared.Command.{Command}
 use Rattle.registers.proofs.Decided.{ran-agree}
 use Rattle.registers.proofs.Plain.{write-numbers}
-use Rattle.book.specs.Book.{put, Entry, call, write, hit, says, State, Seen, Rest}
-use Rattle.book.specs.Book.{but-card-said, but-card-seen, but-cards}
+use Rattle.book.specs.Book.{put, Entry, call, write, hit, says, State, Seen, Rest, in-force}
+use Rattle.book.specs.Book.{but-card-said, but-card-seen, but-cards, but-card-book}
 use Rattle.book.specs.Book.{Book, fresh-book, state-of, registers-of, marks-of, with-front}
 use Rattle.book.specs.Book.{CommandSays, WriteSays, Step, Booked, OneBook}
 use Rattle.book.proofs.Alike.{Alike, Agrees, front-of, blank, same-book, alike-card, register-same, command-same, cause-same, raised-same}
@@ -45,6 +46,7 @@ module _ (b d : Book) (h : Alike b d) where
         set-blank (front-of b) a (put (registers-of b)) n m
         ∙ ap₂ (λ (f : List ℕ) (u : ℕ). set f a (if (eqb a 7) (without-bits u v) v)) (h .front) (register-same b d h 7 (λ z. omega arith))
         ∙ sym (set-blank (front-of d) a (put (registers-of d)) n m);
+    run = h .run;
   }
     where
       put : Registers → ℕ
@@ -65,6 +67,7 @@ module _ (b d : Book) (h : Alike b d) where
           held = g .after .held;
           marks = g .after .marks;
           front = ap (λ (r : Registers). r .front) t;
+          run = g .after .run;
         }),
       )
   writes-alike (suc p) v lent out out′ x x′ z (e, o) (f, q) =
@@ -91,23 +94,25 @@ module _ (b d : Book) (h : Alike b d) where
 -- ---- one entry, any list
 -- what is seen, by its parts
 same-seen : (s s′ : Seen) (x x′ : Book) → but-card-said (s .said) ≡ but-card-said (s′ .said) → s .output ≡ s′ .output → s .after ≡ state-of x
-    → s′ .after ≡ state-of x′ → s .interrupt ≡ raised (registers-of x) → s′ .interrupt ≡ raised (registers-of x′) → Alike x x′
+    → s′ .after ≡ state-of x′ → s .interrupt ≡ raised (registers-of x) → s′ .interrupt ≡ raised (registers-of x′)
+    → s .proposal ≡ proposal (last-64 (x .run)) (marks-of x) → s′ .proposal ≡ proposal (last-64 (x′ .run)) (marks-of x′) → Alike x x′
     → but-card-seen s ≡ but-card-seen s′
 unfolding but-card-registers
-same-seen s s′ x x′ e o a a′ i i′ h = rw (e, o, a, a′, i, i′, raised-same x x′ h, h .held, h .marks, h .front) refl
+same-seen s s′ x x′ e o a a′ i i′ p p′ h =
+    rw (e, o, a, a′, i, i′, p, p′, raised-same x x′ h, h .held, h .marks, h .front, ap window-of (h .run), ap last-64 (h .run)) refl
 
 step-alike : (b d : Book) → Alike b d → (e : Entry) (s s′ : Seen) (x x′ : Book) → Step b e s x → Step d e s′ x′
     → (but-card-seen s ≡ but-card-seen s′) × Alike x x′
 step-alike b d h (call c) s s′ x x′ w v =
     let g = call-alike b d h c (w .says .0) (v .says .0) (s .output) (s′ .output) x x′ (w .says .2) (v .says .2) in (
       same-seen s s′ x x′ (ap but-card-said (w .says .1) ∙ ap says (g .answer) ∙ sym (ap but-card-said (v .says .1))) (g .output) (w .after) (v .after)
-          (w .interrupt) (v .interrupt) (g .after),
+          (w .interrupt) (v .interrupt) (w .proposal) (v .proposal) (g .after),
       g .after,
     )
 step-alike b d h (write p y lent) s s′ x x′ w v =
     let g = write-alike b d h p y lent (w .says .0) (v .says .0) (s .output) (s′ .output) x x′ (w .says .2) (v .says .2) in (
       same-seen s s′ x x′ (ap but-card-said (w .says .1) ∙ ap says (g .answer) ∙ sym (ap but-card-said (v .says .1))) (g .output) (w .after) (v .after)
-          (w .interrupt) (v .interrupt) (g .after),
+          (w .interrupt) (v .interrupt) (w .proposal) (v .proposal) (g .after),
       g .after,
     )
 step-alike b d h (hit i y) s s′ x x′ w v =
@@ -116,9 +121,10 @@ step-alike b d h (hit i y) s s′ x x′ w v =
       held = ap (λ (l : List (List ℕ)). set l (i / 45) (set (getD l (i / 45) []) (i % 45) y)) (h .held);
       marks = h .marks;
       front = h .front;
+      run = h .run;
     }) in (
       same-seen s s′ x x′ (ap but-card-said (w .says .0 ∙ sym (v .says .0))) (w .says .1 ∙ sym (v .says .1)) (w .after) (v .after) (w .interrupt)
-          (v .interrupt) g,
+          (v .interrupt) (w .proposal) (v .proposal) g,
       g,
     )
 
@@ -133,6 +139,29 @@ alike (e ∷ es) (s ∷ ss) (s′ ∷ ss′) b d x x′ h (Booked.then {b′ = y
 pub one-book : OneBook
 one-book n es ss ss′ b b′ w v = let g = alike es ss ss′ (fresh-book n) (fresh-book n) b b′ (same-book (fresh-book n)) w v in (g .0, alike-card b b′ (g .1))
 
+-- but for the card, nothing is left out: what is compared has output, bank, window, marks, interrupt and proposal whole
+pub record Kept (s s′ : Seen) : Type 0 where
+  pub output : s .output ≡ s′ .output
+  pub bank : s .after .bank ≡ s′ .after .bank
+  pub window : s .after .window ≡ s′ .after .window
+  pub marks : in-force (s .after .rest) ≡ in-force (s′ .after .rest)
+  pub interrupt : s .interrupt ≡ s′ .interrupt
+  pub proposal : s .proposal ≡ s′ .proposal
+
+pub but-card-keeps : (s s′ : Seen) → but-card-seen s ≡ but-card-seen s′ → Kept s s′
+unfolding but-card-registers
+but-card-keeps s s′ e = record {
+  output = ap (λ (x : Seen). x .output) e;
+  bank = ap (λ (x : Seen). x .after .bank) e;
+  window = ap (λ (x : Seen). x .after .window) e;
+  marks = ap (λ (x : Seen). in-force (x .after .rest)) e;
+  interrupt = ap (λ (x : Seen). x .interrupt) e;
+  proposal = ap (λ (x : Seen). x .proposal) e;
+}
+
+pub but-card-run : (b b′ : Book) → but-card-book b ≡ but-card-book b′ → (b .good ≡ b′ .good) × (b .held ≡ b′ .held) × (b .run ≡ b′ .run)
+but-card-run b b′ e = (ap (λ (x : Book). x .good) e, ap (λ (x : Book). x .held) e, ap (λ (x : Book). x .run) e)
+
 -- ---- what is seen holds the state, and so the registers
 abbrev final : State → List Seen → State
 final σ [] = σ
@@ -146,8 +175,8 @@ pub one-after : (es : List Entry) (ss : List Seen) (b x x′ : Book) → Booked 
 one-after es ss b x x′ w v =
     let g = alike es ss ss b b x x′ (same-book b) w v .1 in
     let r : x .rest ≡ x′ .rest = ap (λ (σ : State). σ .rest) (final-is es ss b x w ∙ sym (final-is es ss b x′ v)) in
-    together (g .good) (g .held) r
+    together (g .good) (g .held) r (g .run)
   where
-    together : x .good ≡ x′ .good → x .held ≡ x′ .held → x .rest ≡ x′ .rest → x ≡ x′
-    together p q r = ap₂ (λ (k : List (List ℕ)) (l : List (List ℕ)). record { good = k; held = l; rest = x .rest }) p q
-        ∙ ap (λ (y : Rest). record { good = x′ .good; held = x′ .held; rest = y }) r
+    together : x .good ≡ x′ .good → x .held ≡ x′ .held → x .rest ≡ x′ .rest → x .run ≡ x′ .run → x ≡ x′
+    together p q r i = ap₂ (λ (k : List (List ℕ)) (l : List (List ℕ)). record { good = k; held = l; rest = x .rest; run = x .run }) p q
+        ∙ ap₂ (λ (y : Rest) (l : List ℕ). record { good = x′ .good; held = x′ .held; rest = y; run = l }) r i

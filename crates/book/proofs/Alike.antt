@@ -17,7 +17,10 @@ use Rattle.base.specs.Base.{if}
 use Rattle.answer.specs.Answer.{Answer, but-card, By}
 use Rattle.answer.proofs.Causes.{by-agree, by-map}
 use Rattle.marks.specs.Mark.{mark-cause}
+use Rattle.reading.specs.Reading.{ReadsUnder}
 use Rattle.reading.proofs.Agree.{under-agree}
+use Rattle.block.specs.Read.{changed-at}
+use Rattle.block.proofs.Decided.{changed-agree}
 use Rattle.bank.specs.Calls.{clear-cause, put-cause, get-cause, patrol-cause, report-cause}
 use Rattle.bank.proofs.Each.{counts-agree}
 use Rattle.registers.specs.Registers.{register, share, raised}
@@ -26,9 +29,9 @@ use Rattle.registers.specs.Plain.{but-card-registers}
 use Rattle.registers.specs.declared.Command.{Command}
 use Rattle.registers.specs.declared.Command.the-variants.{Get, Patrol, Mark, Unknown}
 use Rattle.registers.proofs.Commands.{Eleven, reads-eleven, by-eleven}
-use Rattle.book.specs.Book.{Call, clear, put, get, patrol, report, mark}
+use Rattle.book.specs.Book.{Call, clear, put, get, patrol, report, mark, clear-window}
 use Rattle.book.specs.Book.{but-card-book}
-use Rattle.book.specs.Book.{Book, many, size, registers-of, marks-of, held-at, with-both, with-held, with-front}
+use Rattle.book.specs.Book.{Book, many, size, registers-of, marks-of, held-at, with-both, with-held, with-front, noted}
 use Rattle.book.specs.Book.{CallSays, CommandSays}
 
 -- answer, output and book after it
@@ -45,14 +48,19 @@ call-agree b (put k rec) a a′ out out′ x x′ (o, w) (o′, v) =
     let g = by-agree (put-cause (size b) k (length rec)) a a′ b x x′ _ _ w v
     (λ d d′. (ap but-card (d .0 ∙ sym (d′ .0)), d .1 .2 ∙ ap (with-both b k) (sym (d .1 .1 .1 (d′ .1 .0) (d′ .1 .1 .0))) ∙ sym (d′ .1 .2))) in
     record { answer = g .0; output = o ∙ sym o′; book = g .1 }
-call-agree b (get k lent) a a′ out out′ x x′ (e, w) (e′, v) =
-    let g = by-agree (get-cause (size b) k (marks-of b) (length lent)) a a′ lent out out′ _ _ w v
-    (λ d d′. under-agree (marks-of b) (held-at b k) lent a a′ out out′ d d′) in
-    record { answer = g .0; output = g .1; book = e ∙ sym e′ }
+call-agree b (get k lent) a a′ out out′ x x′ w v = go (get-cause (size b) k (marks-of b) (length lent)) w v
+  where
+    go : (n : ℕ) → By n a ((x ≡ b) × (out ≡ lent)) (ReadsUnder (marks-of b) (held-at b k) lent a out × (x ≡ noted b (changed-at a (held-at b k) out)))
+        → By n a′ ((x′ ≡ b) × (out′ ≡ lent)) (ReadsUnder (marks-of b) (held-at b k) lent a′ out′ × (x′ ≡ noted b (changed-at a′ (held-at b k) out′)))
+        → Same a a′ out out′ x x′
+    go zero (d, e) (d′, e′) =
+        let g = under-agree (marks-of b) (held-at b k) lent a a′ out out′ d d′ in
+        record { answer = g .0; output = g .1; book = e ∙ ap (noted b) (changed-agree a a′ (g .0) (held-at b k) out out′ (g .1)) ∙ sym e′ }
+    go (suc n) (e, (f, o)) (e′, (f′, o′)) = record { answer = ap but-card (e ∙ sym e′); output = o ∙ sym o′; book = f ∙ sym f′ }
 call-agree b (patrol k) a a′ out out′ x x′ (o, w) (o′, v) =
     let g = by-agree (patrol-cause (size b) k (marks-of b)) a a′ b x x′ _ _ w v
     (λ d d′. let r = under-agree (marks-of b) (held-at b k) (held-at b k) a a′ (d .0) (d′ .0) (d .1) (d′ .1) in
-    (r .0, d .2 ∙ ap (with-held b k) (r .1) ∙ sym (d′ .2))) in
+    (r .0, d .2 ∙ ap₂ (λ (y ps : List ℕ). noted (with-held b k y) ps) (r .1) (changed-agree a a′ (r .0) (held-at b k) (d .0) (d′ .0) (r .1)) ∙ sym (d′ .2))) in
     record { answer = g .0; output = o ∙ sym o′; book = g .1 }
 call-agree b report a a′ out out′ x x′ (o, e, w) (o′, e′, v) =
     record {
@@ -63,6 +71,8 @@ call-agree b report a a′ out out′ x x′ (o, e, w) (o′, e′, v) =
 call-agree b (mark c) a a′ out out′ x x′ (o, w) (o′, v) =
     let g = by-agree (mark-cause (marks-of b) c) a a′ b x x′ _ _ w v (λ d d′. (ap but-card (d .0 ∙ sym (d′ .0)), d .1 ∙ sym (d′ .1))) in
     record { answer = g .0; output = o ∙ sym o′; book = g .1 }
+call-agree b clear-window a a′ out out′ x x′ (o, e, f) (o′, e′, f′) =
+    record { answer = ap but-card (e ∙ sym e′); output = o ∙ sym o′; book = f ∙ sym f′ }
 
 -- ---- books that agree but for the card in byte 5
 abbrev pub front-of : Book → List ℕ
@@ -77,17 +87,18 @@ pub record Alike (b d : Book) : Type 0 where
   pub held : b .held ≡ d .held
   pub marks : marks-of b ≡ marks-of d
   pub front : blank (front-of b) ≡ blank (front-of d)
+  pub run : b .run ≡ d .run
 
 pub same-book : (b : Book) → Alike b b
-same-book b = record { good = refl; held = refl; marks = refl; front = refl }
+same-book b = record { good = refl; held = refl; marks = refl; front = refl; run = refl }
 
 pub alike-card : (b d : Book) → Alike b d → but-card-book b ≡ but-card-book d
 unfolding but-card-registers
-alike-card b d h = rw (h .good, h .held, h .marks, h .front) refl
+alike-card b d h = rw (h .good, h .held, h .marks, h .front, h .run) refl
 
 module _ (b d : Book) (h : Alike b d) where
   replaced : with-front b (front-of d) ≡ d
-  replaced = rw (h .good, h .held, h .marks) refl
+  replaced = rw (h .good, h .held, h .marks, h .run) refl
 
   pub register-same : (i : ℕ) → i ≢ 5 → register (registers-of b) i ≡ register (registers-of d) i
   register-same i n =
@@ -114,24 +125,31 @@ module _ (b : Book) (f : List ℕ) where
   call-front clear a out x (o, w) = (o, by-map (clear-cause (size b)) a _ _ _ _ other (λ z d. (d .0, other (d .1))) w)
   call-front (put k rec) a out x (o, w) =
       (o, by-map (put-cause (size b) k (length rec)) a _ _ _ _ other (λ z d. (d .0, (d .1 .0, d .1 .1, other (d .1 .2)))) w)
-  call-front (get k lent) a out x (e, w) = (other e, w)
+  call-front (get k lent) a out x w =
+      by-map (get-cause (size b) k (marks-of b) (length lent)) a _ _ _ _ (λ u. (other (u .0), u .1)) (λ z d. (d .0, other (d .1))) w
   call-front (patrol k) a out x (o, w) =
       (o, by-map (patrol-cause (size b) k (marks-of b)) a _ _ _ _ other (λ z d. (d .0, d .1, other (d .2))) w)
   call-front report a out x (o, e, w) = (o, other e, w)
   call-front (mark c) a out x (o, w) = (o, by-map (mark-cause (marks-of b) c) a _ _ _ _ other (λ z d. (d .0, other (d .1))) w)
+  call-front clear-window a out x (o, e, f) = (o, e, other f)
 
 -- where it is refused, and where it is done
 kept-front : (n : ℕ) (a : Answer) (b x : Book) (D : Type 0) → (D → front-of x ≡ front-of b) → By n a (x ≡ b) D → front-of x ≡ front-of b
 kept-front zero a b x D f d = f d
 kept-front (suc n) a b x D f (e, u) = ap front-of u
 
+kept-both : (n : ℕ) (a : Answer) (b x : Book) (O D : Type 0) → (D → front-of x ≡ front-of b) → By n a ((x ≡ b) × O) D → front-of x ≡ front-of b
+kept-both zero a b x O D f d = f d
+kept-both (suc n) a b x O D f (e, u) = ap front-of (u .0)
+
 front-kept : (b : Book) (c : Call) (a : Answer) (out : List ℕ) (x : Book) → CallSays b c a out x → front-of x ≡ front-of b
 front-kept b clear a out x (o, w) = kept-front (clear-cause (size b)) a b x _ (λ d. ap front-of (d .1)) w
 front-kept b (put k rec) a out x (o, w) = kept-front (put-cause (size b) k (length rec)) a b x _ (λ d. ap front-of (d .1 .2)) w
-front-kept b (get k lent) a out x (e, w) = ap front-of e
+front-kept b (get k lent) a out x w = kept-both (get-cause (size b) k (marks-of b) (length lent)) a b x _ _ (λ d. ap front-of (d .1)) w
 front-kept b (patrol k) a out x (o, w) = kept-front (patrol-cause (size b) k (marks-of b)) a b x _ (λ d. ap front-of (d .2)) w
 front-kept b report a out x (o, e, w) = ap front-of e
 front-kept b (mark c) a out x (o, w) = kept-front (mark-cause (marks-of b) c) a b x _ (λ d. ap front-of (d .1)) w
+front-kept b clear-window a out x (o, e, f) = ap front-of f
 
 -- ---- one call, of alike books
 pub record Agrees (a a′ : Answer) (out out′ : List ℕ) (x x′ : Book) : Type 0 where
@@ -153,6 +171,7 @@ call-alike b d h c a a′ out out′ x x′ w v =
         held = ap (λ (y : Book). y .held) (g .book);
         marks = ap marks-of (g .book);
         front = ap blank (front-kept b c a out x w) ∙ h .front ∙ ap blank (ap front-of (g .book));
+        run = ap (λ (y : Book). y .run) (g .book);
       };
     }
 
@@ -168,8 +187,8 @@ command-alike b d h (Mark c) lent a a′ out out′ x x′ (w, o) (v, p) =
 command-alike b d h Unknown lent a a′ out out′ x x′ w v = absurd w
 
 pub command-eleven : (b : Book) (c : Command) (lent : List ℕ) (a : Answer) (out : List ℕ) (x : Book) → CommandSays b c lent a out x → Eleven a
-command-eleven b (Get k) lent a out x (e, w) =
-    by-eleven (get-cause (size b) k (marks-of b) (length lent)) a _ _ (reads-eleven (marks-of b) (held-at b k) lent a out) w
+command-eleven b (Get k) lent a out x w =
+    by-eleven (get-cause (size b) k (marks-of b) (length lent)) a _ _ (λ d. reads-eleven (marks-of b) (held-at b k) lent a out (d .0)) w
 command-eleven b (Patrol k) lent a out x ((o, w), p) =
     by-eleven (patrol-cause (size b) k (marks-of b)) a _ _ (λ d. reads-eleven (marks-of b) (held-at b k) (held-at b k) a (d .0) (d .1)) w
 command-eleven b (Mark c) lent a out x ((o, w), p) = by-eleven (mark-cause (marks-of b) c) a _ _ (λ d. subst Eleven (sym (d .0)) tt) w

@@ -41,18 +41,18 @@ one-byte b i x = (i ∷ [], omega arith, λ p l. at p (same p i))
     at p (inl e) = inr (inr (inl e))
     at p (inr n) = inl (getD-set-other b i p x 0 n)
 
-fresh-lawful : LawfulMarks fresh-marks
+pub fresh-lawful : LawfulMarks fresh-marks
 fresh-lawful = record { card = tt; count = omega arith; first = inr (refl, refl); second = inr (omega arith, refl); differ = λ e. absurd (omega arith) }
 
 -- the book after the put and the hit: the block stored, and held with byte i set to x
-abbrev after : ℕ → ℕ → List ℕ → ℕ → ℕ → Book
+abbrev pub after : ℕ → ℕ → List ℕ → ℕ → ℕ → Book
 after n k good i x = with-held (with-both (fresh-book n) k good) k (set good i x)
 
 module _ (n k : ℕ) (hi : n ≤ 1024) (hk : k < n) (rec out : List ℕ) (lr : length rec ≡ 34) (lq : length out ≡ 45) (i x : ℕ) (h : i < 45) where
   puts : put-cause (45 * n) k (length rec) ≡ 0
   puts = accepts (45 * n) k (length rec) 45 fresh-marks .put .1 ((n, omega arith, hi, refl), omega arith, lr)
 
-  gets : get-cause (45 * n) k fresh-marks (length out) ≡ 0
+  pub gets : get-cause (45 * n) k fresh-marks (length out) ≡ 0
   gets = accepts (45 * n) k 34 (length out) fresh-marks .get .1 ((n, omega arith, hi, refl), omega arith, fresh-lawful, lq)
 
   hit-then : (b : Book) (y : List ℕ) → b ≡ with-both (fresh-book n) k y
@@ -64,17 +64,17 @@ module _ (n k : ℕ) (hi : n ≤ 1024) (hk : k < n) (rec out : List ℕ) (lr : l
       rw (e, q, r, there) refl
 
   -- what the book says of the put, and then of the hit
-  put-then : (s t : Seen) (b₁ b₂ : Book) → Step (fresh-book n) (call (put k rec)) s b₁ → Step b₁ (hit (45 * k + i) x) t b₂
-      → (good : List ℕ) × (b₂ ≡ after n k good i x)
+  pub put-then : (s t : Seen) (b₁ b₂ : Book) → Step (fresh-book n) (call (put k rec)) s b₁ → Step b₁ (hit (45 * k + i) x) t b₂
+      → (good : List ℕ) × (b₂ ≡ after n k good i x) × Stored built-in rec good × (b₁ ≡ with-both (fresh-book n) k good)
   put-then s t b₁ b₂ w v =
       let a = w .says .0 in
       let z : put-cause (size (fresh-book n)) k (length rec) ≡ 0 = ap (λ (l : ℕ). put-cause (45 * l) k (length rec)) (length-replicate n zeros) ∙ puts in
       let d = by-accepted _ a (b₁ ≡ fresh-book n)
       ((a ≡ done) × ((y : List ℕ) × OneMember (Stored built-in rec) y × (b₁ ≡ with-both (fresh-book n) k y))) z (w .says .2 .1) in
-      (d .1 .0, v .says .2 ∙ hit-then b₁ (d .1 .0) (d .1 .2))
+      (d .1 .0, v .says .2 ∙ hit-then b₁ (d .1 .0) (d .1 .2), d .1 .1 .0, d .1 .2)
 
   module _ (good : List ℕ) where
-    held : held-at (after n k good i x) k ≡ set good i x
+    pub held : held-at (after n k good i x) k ≡ set good i x
     held = getD-set-same (set (replicate n zeros) k good) k (set good i x) [] (omega (arith, length-set (replicate n zeros) k good, length-replicate n zeros))
 
     kept : good-at (after n k good i x) k ≡ good
@@ -116,7 +116,7 @@ module _ (n k : ℕ) (hi : n ≤ 1024) (hk : k < n) (rec out : List ℕ) (lr : l
       by-accepted _ (w .says .0) _ _ (plain-0 (registers-of b) v (suc p) (λ z. omega arith) l e f) (w .says .2) .1 .0
 
   -- the registers with the block's number in them
-  abbrev asking : Registers
+  abbrev pub asking : Registers
   asking = stored (stored fresh-registers 1 (k % 256)) 2 (k / 256)
 
   asks : command-of asking 1 ≡ Get k
@@ -131,7 +131,7 @@ module _ (n k : ℕ) (hi : n ≤ 1024) (hk : k < n) (rec out : List ℕ) (lr : l
     unfolding last-put
     last-longer = last
 
-    written : (p q : Seen) (b₂ b₃ b₄ : Book) (good : List ℕ) → b₂ ≡ after n k good i x → Step b₂ (write 1 (k % 256) lent) p b₃
+    pub written : (p q : Seen) (b₂ b₃ b₄ : Book) (good : List ℕ) → b₂ ≡ after n k good i x → Step b₂ (write 1 (k % 256) lent) p b₃
         → Step b₃ (write 2 (k / 256) more) q b₄ → b₄ ≡ with-front (after n k good i x) (asking .front)
     written p q b₂ b₃ b₄ good e w v =
         let f = write-then 0 (k % 256) lent p b₂ b₃ (omega arith) (λ z. omega arith) (λ z. omega arith) w in

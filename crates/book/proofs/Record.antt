@@ -7,8 +7,8 @@
 --   gets-last-put      THE STATEMENT
 use Prim.Native.Nat.{ℕ, zero, suc, _*_, _/_, _≤_, _<_}
 use mathlib.Core.Path.{_≡_, refl, sym, ap, _∙_, subst}
-use mathlib.Core.Bool.{_&&_}
-use mathlib.Core.List.{List, [], _∷_}
+use mathlib.Core.Bool.{_&&_, false≢true}
+use mathlib.Core.List.{List, [], _∷_, _++_}
 use mathlib.Core.Logic.{_⊎_, inl, inr, by-cases, _↔_}
 use native.Mathlib.Omega.{arith}
 use native.Mathlib.Decide.{ℕ-discrete}
@@ -40,9 +40,9 @@ use Rattle.registers.specs.declared.Command.{Command}
 use Rattle.registers.specs.declared.Command.the-variants.{Get, Patrol, Mark, Unknown}
 use Rattle.registers.proofs.Commands.{Comes, reading-comes}
 use Rattle.registers.proofs.Writes.{known-0}
-use Rattle.book.specs.Book.{clear, put, get, patrol, report, mark, Entry, call, write, hit, says, Seen, State, Rest, rest-of}
-use Rattle.book.specs.Book.{Book, zero-book, many, size, registers-of, marks-of, held-at, with-marks, with-held, with-both, with-front}
-use Rattle.book.specs.Book.{CommandSays, WriteSays, Step, Booked}
+use Rattle.book.specs.Book.{clear, put, get, patrol, report, mark, clear-window, Entry, call, write, hit, says, Seen, State, Rest, rest-of}
+use Rattle.book.specs.Book.{Book, zero-book, many, size, registers-of, marks-of, held-at, with-marks, with-held, with-both, with-front, with-run, noted}
+use Rattle.book.specs.Book.{CallSays, CommandSays, WriteSays, Step, Booked}
 use Rattle.book.specs.Kept.{record-after, last-put, good-at, DamageAllowed, DamageOfChipKind, GetOf, by-call, by-command}
 use Rattle.book.specs.Kept.{Corrected, Answers, GivesRecord, GetsLastPut}
 use Rattle.book.proofs.Causes.{clear-none, get-none}
@@ -54,19 +54,19 @@ record Kept (n k : ℕ) (rec : List ℕ) (b : Book) : Type 0 where
   stored : Stored built-in rec (good-at b k)
 
 module _ (n k : ℕ) (lo : 1 ≤ n) (hi : n ≤ 1024) (inside : k < n) where
-  zeros-kept : (w : Rest) → Kept n k (replicate 34 0) (zero-book n w)
-  zeros-kept w = record {
+  zeros-kept : (w : Rest) (run : List ℕ) → Kept n k (replicate 34 0) (zero-book n w run)
+  zeros-kept w run = record {
     held = length-replicate n zeros;
     good = length-replicate n zeros;
     stored = rw (getD-replicate n k zeros [] inside) (zero-stored built-in);
   }
 
   module _ {rec : List ℕ} {b : Book} (g : Kept n k rec b) where
-    clear-kept : (a : Answer) (b′ : Book) → By (clear-cause (size b)) a (b′ ≡ b) ((a ≡ done) × (b′ ≡ zero-book (many b) (b .rest)))
+    clear-kept : (a : Answer) (b′ : Book) → By (clear-cause (size b)) a (b′ ≡ b) ((a ≡ done) × (b′ ≡ zero-book (many b) (b .rest) (b .run)))
         → Kept n k (replicate 34 0) b′
     clear-kept a b′ w =
-        let e = by-accepted (clear-cause (45 * n)) a (b′ ≡ b) ((a ≡ done) × (b′ ≡ zero-book n (b .rest))) (clear-none n lo hi) (rw (g .held) at w) in
-        rw (e .1) (zeros-kept (b .rest))
+        let e = by-accepted (clear-cause (45 * n)) a (b′ ≡ b) ((a ≡ done) × (b′ ≡ zero-book n (b .rest) (b .run))) (clear-none n lo hi) (rw (g .held) at w) in
+        rw (e .1) (zeros-kept (b .rest) (b .run))
 
     put-kept : (z j : ℕ) (new : List ℕ) (a : Answer) (b′ : Book)
         → By z a (b′ ≡ b) ((a ≡ done) × ((x : List ℕ) × OneMember (Stored built-in new) x × (b′ ≡ with-both b j x)))
@@ -91,13 +91,24 @@ module _ (n k : ℕ) (lo : 1 ≤ n) (hi : n ≤ 1024) (inside : k < n) where
     front-kept : (f : List ℕ) (b′ : Book) → b′ ≡ with-front b f → Kept n k rec b′
     front-kept f b′ e = rw e (record { held = g .held; good = g .good; stored = g .stored })
 
+    -- nor does the run
+    run-kept : (l : List ℕ) (b′ : Book) → b′ ≡ with-run b l → Kept n k rec b′
+    run-kept l b′ e = rw e (record { held = g .held; good = g .good; stored = g .stored })
+
+    get-kept : (z : ℕ) (a : Answer) (b′ : Book) (O D : Type 0) (ps : List ℕ) → By z a ((b′ ≡ b) × O) (D × (b′ ≡ noted b ps)) → Kept n k rec b′
+    get-kept zero a b′ O D ps (d, e) = run-kept (b .run ++ ps) b′ e
+    get-kept (suc z) a b′ O D ps (d, e) = rw (e .0) g
+
+    mended-kept : (j : ℕ) (x ps : List ℕ) (b′ : Book) → b′ ≡ noted (with-held b j x) ps → Kept n k rec b′
+    mended-kept j x ps b′ e = rw e (record { held = length-set (b .held) j x ∙ g .held; good = g .good; stored = g .stored })
+
     held-kept : (j : ℕ) (x : List ℕ) (b′ : Book) → b′ ≡ with-held b j x → Kept n k rec b′
     held-kept j x b′ e = rw e (record { held = length-set (b .held) j x ∙ g .held; good = g .good; stored = g .stored })
 
     -- a command leaves the good blocks to the call that it stands for, and no such call changes them
     command-kept : (c : Command) (lent : List ℕ) (a : Answer) (out : List ℕ) (b′ : Book) → CommandSays b c lent a out b′ → Kept n k rec b′
-    command-kept (Get j) lent a out b′ w = rw (w .0) g
-    command-kept (Patrol j) lent a out b′ w = kept-by (patrol-cause (size b) j (marks-of b)) a b′ _ (λ d. held-kept j (d .0) b′ (d .2)) (w .0 .1)
+    command-kept (Get j) lent a out b′ w = get-kept (get-cause (size b) j (marks-of b) (length lent)) a b′ _ _ _ w
+    command-kept (Patrol j) lent a out b′ w = kept-by (patrol-cause (size b) j (marks-of b)) a b′ _ (λ d. mended-kept j (d .0) _ b′ (d .2)) (w .0 .1)
     command-kept (Mark c) lent a out b′ w =
         kept-by (mark-cause (marks-of b) c) a b′ _ (λ d. marks-kept (marked (marks-of b) c) b′ (d .1)) (w .0 .1)
     command-kept Unknown lent a out b′ w = absurd w
@@ -115,12 +126,14 @@ module _ (n k : ℕ) (lo : 1 ≤ n) (hi : n ≤ 1024) (inside : k < n) where
   entry-kept : (e : Entry) (s : Seen) {rec : List ℕ} {b b′ : Book} → Kept n k rec b → Step b e s b′ → Kept n k (record-after n k e rec) b′
   entry-kept (call clear) s {b′ = b′} g w = clear-kept g (w .says .0) b′ (w .says .2 .1)
   entry-kept (call (put j new)) s {b′ = b′} g w = put-kept g (put-cause (45 * n) j (length new)) j new (w .says .0) b′ (rw (g .held) at (w .says .2 .1))
-  entry-kept (call (get j out)) s g w = rw (w .says .2 .0) g
+  entry-kept (call (get j out)) s {b = b} {b′ = b′} g w =
+      get-kept g (get-cause (size b) j (marks-of b) (length out)) (w .says .0) b′ _ _ _ (w .says .2)
   entry-kept (call (patrol j)) s {b = b} {b′ = b′} g w =
-      kept-by g (patrol-cause (size b) j (marks-of b)) (w .says .0) b′ _ (λ d. held-kept g j (d .0) b′ (d .2)) (w .says .2 .1)
+      kept-by g (patrol-cause (size b) j (marks-of b)) (w .says .0) b′ _ (λ d. mended-kept g j (d .0) _ b′ (d .2)) (w .says .2 .1)
   entry-kept (call report) s g w = rw (w .says .2 .1) g
   entry-kept (call (mark c)) s {b = b} {b′ = b′} g w =
       kept-by g (mark-cause (marks-of b) c) (w .says .0) b′ _ (λ d. marks-kept g (marked (marks-of b) c) b′ (d .1)) (w .says .2 .1)
+  entry-kept (call clear-window) s {b′ = b′} g w = run-kept g [] b′ (w .says .2 .2)
   entry-kept (write p v lent) s {b = b} {b′ = b′} g w =
       refused-or (write-cause (registers-of b) p v) (w .says .0) b′ _ _ g (write-kept p v lent (s .output) b′ g) (w .says .2)
   entry-kept (hit i x) s {b′ = b′} g w = held-kept g (i / 45) _ b′ (w .says .2)
@@ -161,9 +174,9 @@ module _ (b : Book) (k : ℕ) (rec : List ℕ) (lawful : LawfulMarks (marks-of b
 
   gives : (out : List ℕ) (a : Answer) (x : List ℕ) → ReadsUnder (marks-of b) (held-at b k) out a x → Given a x
   unfolding Fits Given
-  gives out clean x w = inl (tt, ap (take 34) (sym (w .0 .1 (good-at b k) member)) ∙ good .begins)
-  gives out (in-chips n) x w = inl (tt, ap (take 34) (sym (w .0 .1 (good-at b k) member)) ∙ good .begins)
-  gives out (in-card j n) x w = inl (tt, ap (take 34) (sym (w .0 .1 (good-at b k) member)) ∙ good .begins)
+  gives out clean x w = inl (refl, ap (take 34) (sym (w .0 .1 (good-at b k) member)) ∙ good .begins)
+  gives out (in-chips n) x w = inl (refl, ap (take 34) (sym (w .0 .1 (good-at b k) member)) ∙ good .begins)
+  gives out (in-card j n) x w = inl (refl, ap (take 34) (sym (w .0 .1 (good-at b k) member)) ∙ good .begins)
   gives out (refused n) x w = absurd (w .1 (good-at b k) member)
   gives out (refused-card n j) x w =
       inr (j, ap (λ (i : ℕ). refused-card i j) (w .0), no-card (marks-of b .card) refl (lawful .card) (w .1), no-chips (w .1))
@@ -177,10 +190,9 @@ module _ (b : Book) (k : ℕ) (rec : List ℕ) (lawful : LawfulMarks (marks-of b
   answered e s a q (inr (j, f, w, v)) = inr (j, subst (Answers e s) f q, w, v)
 
   -- by the call, and by the command
-  read-at : (out : List ℕ) (a : Answer) (x : List ℕ) → get-cause (size b) k (marks-of b) (length out) ≡ 0
-      → By (get-cause (size b) k (marks-of b) (length out)) a (x ≡ out) (ReadsUnder (marks-of b) (held-at b k) out a x)
+  read-at : (out : List ℕ) (a : Answer) (x : List ℕ) (b′ : Book) → get-cause (size b) k (marks-of b) (length out) ≡ 0 → CallSays b (get k out) a x b′
       → ReadsUnder (marks-of b) (held-at b k) out a x
-  read-at out a x z w = by-accepted _ a (x ≡ out) (ReadsUnder (marks-of b) (held-at b k) out a x) z w
+  read-at out a x b′ z w = by-accepted _ a _ _ z w .0
 
   comes : (out : List ℕ) (a : Answer) (x : List ℕ) → ReadsUnder (marks-of b) (held-at b k) out a x → Comes a
   comes out a x w = reading-comes (10 ∷ []) refl a (reads-give (10 ∷ []) (inl refl) (marks-of b) lawful (held-at b k) out a x w)
@@ -189,13 +201,13 @@ module _ (b : Book) (k : ℕ) (rec : List ℕ) (lawful : LawfulMarks (marks-of b
       → GivesRecord b k rec e s
   gets out e by-call s b′ t z =
       let a = t .says .0 in
-      answered (call (get k out)) s a (t .says .1) (gives out a (s .output) (read-at out a (s .output) z (t .says .2 .1)))
+      answered (call (get k out)) s a (t .says .1) (gives out a (s .output) (read-at out a (s .output) b′ z (t .says .2)))
   gets out e (by-command v c) s b′ t z =
       let x = t .says .0 in
       let d = by-accepted _ x _ _ (known-0 (registers-of b) v (Get k) c refl) (t .says .2) in
       let a = d .1 .0 in
       let y = d .1 .1 in
-      let r = read-at out a (s .output) z (subst (λ (q : Command). CommandSays b q out a (s .output) y) c (d .1 .2) .1) in
+      let r = read-at out a (s .output) y z (subst (λ (q : Command). CommandSays b q out a (s .output) y) c (d .1 .2)) in
       let told : last-answer (s .after .rest .registers) ≡ a =
       ap (λ (τ : State). last-answer (τ .rest .registers)) (t .after) ∙ ap (λ (q : Book). last-answer (registers-of q)) (d .1 .3)
       ∙ comes out a (s .output) r .back in
@@ -203,17 +215,17 @@ module _ (b : Book) (k : ℕ) (rec : List ℕ) (lawful : LawfulMarks (marks-of b
 
 -- "corrected" is what a report counts as clean, chips or card
 pub corrected-exactly : (a : Answer) → Corrected a ↔ (class a < 3)
-corrected-exactly clean = ((λ u. omega arith), λ h. tt)
-corrected-exactly (in-chips n) = ((λ u. omega arith), λ h. tt)
-corrected-exactly (in-card j n) = ((λ u. omega arith), λ h. tt)
-corrected-exactly done = ((λ u. absurd u), λ h. omega arith)
-corrected-exactly (counted v w x y z) = ((λ u. absurd u), λ h. omega arith)
-corrected-exactly (refused n) = ((λ u. absurd u), λ h. omega arith)
-corrected-exactly (refused-card n j) = ((λ u. absurd u), λ h. omega arith)
+corrected-exactly clean = ((λ u. omega arith), λ h. refl)
+corrected-exactly (in-chips n) = ((λ u. omega arith), λ h. refl)
+corrected-exactly (in-card j n) = ((λ u. omega arith), λ h. refl)
+corrected-exactly done = ((λ u. absurd (false≢true u)), λ h. absurd (omega arith))
+corrected-exactly (counted v w x y z) = ((λ u. absurd (false≢true u)), λ h. absurd (omega arith))
+corrected-exactly (refused n) = ((λ u. absurd (false≢true u)), λ h. absurd (omega arith))
+corrected-exactly (refused-card n j) = ((λ u. absurd (false≢true u)), λ h. absurd (omega arith))
 
 pub gets-last-put : GetsLastPut
 gets-last-put n lo hi es ss b w k out e o s b′ t z d =
     let f = get-none n k (marks-of b) (length out) z in
-    let g = all-kept n k lo hi (f .1) es ss (zeros-kept n k lo hi (f .1) (rest-of fresh-registers)) w in
+    let g = all-kept n k lo hi (f .1) es ss (zeros-kept n k lo hi (f .1) (rest-of fresh-registers) []) w in
     let z′ : get-cause (size b) k (marks-of b) (length out) ≡ 0 = ap (λ (l : ℕ). get-cause (45 * l) k (marks-of b) (length out)) (g .held) ∙ z in
     gets b k (last-put n k (replicate 34 0) es) (cause-lawful (marks-of b) (f .2)) (g .stored) d out e o s b′ t z′

@@ -11,21 +11,22 @@
 --   OneHit, OneHitByCommand   lists that meet its premises, and what it says of them
 use Prim.Native.Nat.{ℕ, _+_, _*_, _/_, _%_, _≤_, _<_}
 use mathlib.Core.Path.{_≡_}
-use mathlib.Core.Bool.{_&&_}
+use mathlib.Core.Bool.{true, _&&_}
 use mathlib.Core.Logic.{_⊎_}
 use mathlib.Core.List.{List, [], _∷_, _++_}
 use lib.Dec.{eqb}
 use lib.ListN.{length, take, replicate, getD}
 use Rattle.base.specs.Base.{if}
-use Rattle.answer.specs.Answer.{Answer, done, clean, in-chips, in-card, counted, refused, refused-card}
+use Rattle.answer.specs.Answer.{Answer, done, refused-card}
 use Rattle.marks.specs.Marks.{marked-chips}
 use Rattle.marks.specs.declared.CardMark.the-variants.{None}
 use Rattle.reading.specs.Allowed.{Allowed, OfChipKind}
+use Rattle.block.specs.Read.{is-corrected}
 use Rattle.bank.specs.Calls.{put-cause, get-cause}
 use Rattle.registers.specs.Write.{command-of}
 use Rattle.registers.specs.Plain.{last-answer}
 use Rattle.registers.specs.declared.Command.the-variants.{Get}
-use Rattle.book.specs.Book.{clear, put, get, patrol, report, mark, Entry, call, write, hit, says, Seen, fresh-state, Ran}
+use Rattle.book.specs.Book.{clear, put, get, patrol, report, mark, clear-window, Entry, call, write, hit, says, Seen, fresh-state, Ran}
 use Rattle.book.specs.Book.{Book, fresh-book, registers-of, marks-of, held-at, Booked, Step}
 
 -- the record in block k after an entry, in a bank of n blocks
@@ -36,6 +37,7 @@ record-after n k (call (get j out)) rec = rec
 record-after n k (call (patrol j)) rec = rec
 record-after n k (call report) rec = rec
 record-after n k (call (mark c)) rec = rec
+record-after n k (call clear-window) rec = rec
 record-after n k (write a v out) rec = rec
 record-after n k (hit i x) rec = rec
 
@@ -65,13 +67,7 @@ Answers (write p v out) s a = (s .said ≡ says done) × (last-answer (s .after 
 Answers (hit i x) s a = ⊥
 
 abbrev pub Corrected : Answer → Type 0
-Corrected clean = Unit {0}
-Corrected (in-chips n) = Unit {0}
-Corrected (in-card j n) = Unit {0}
-Corrected done = ⊥
-Corrected (counted v w x y z) = ⊥
-Corrected (refused n) = ⊥
-Corrected (refused-card n j) = ⊥
+Corrected a = is-corrected a ≡ true
 
 -- corrected, and the output begins with the record; or 11, and that neither with a card marked nor of damage of the chip kind
 abbrev pub GivesRecord : Book → ℕ → List ℕ → Entry → Seen → Type 0

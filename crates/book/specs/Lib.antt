@@ -1,2 +1,4 @@
 pub mod Book
 pub mod Kept
+pub mod Noted
+pub mod Possible

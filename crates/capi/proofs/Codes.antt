@@ -4,7 +4,7 @@
 --   split, split-totals    the header's functions give back the parts that a code was packed of; ..-small: whatever the code, within their types
 --   chips-coded, card-coded                   what the parts of the code of "chips" and of "card" are
 --   outcome-back, reading-back, report-back   the answer told by the parts of a code is the answer it is the code of
---   value-layout, value-back   the same of a register's byte, or the number of its refusal
+--   value-layout, value-back   the same of a register's byte, or the number of its refusal; proposal-layout, proposal-back: of a proposal
 --   outcome-number, reading-number, report-number   the number in a code is 01's number of the answer
 --   outcome-one, reading-one, report-one      two answers of such a call with one code are the same
 --   outcome-fits, reading-fits, report-fits   32 bits, and 63 for a report
@@ -22,7 +22,10 @@ use Rattle.answer.proofs.Gives.{Reports, were-counted, not-counted, numbered, n
 use Rattle.capi.specs.Codes.{packed, packed-totals, code, number-in, kind-in, card-in, n-in, clean-in, chips-in, cards-in, none-in, several-in}
 use Rattle.registers.specs.declared.Value.{Value}
 use Rattle.registers.specs.declared.Value.the-variants.{Byte, Refused}
-use Rattle.capi.specs.Codes.{value-code, byte-in, value-in}
+use Rattle.window.specs.Plain.{proposal-number}
+use Rattle.window.specs.declared.Proposal.{Proposal}
+use Rattle.window.specs.declared.Proposal.the-variants.{Chip, Nothing, Refused as RefusedWith}
+use Rattle.capi.specs.Codes.{value-code, byte-in, value-in, proposal-code, chip-in, proposal-in}
 use Rattle.capi.specs.Codes.{by-number, corrected-as, refused-as, outcome-in, reading-in, report-in}
 
 -- in figures: the header's layout, each part at its bits
@@ -65,6 +68,32 @@ value-back (Byte x) h =
 value-back (Refused n) h =
     let m : number-in n ≡ n = omega arith in
     simp (m, ne-eqb n 0 (λ z. omega (arith, z)))
+
+-- ---- a proposal
+pub proposal-layout : (proposal-code (Chip 44) ≡ 0x00002C00) × (proposal-code Nothing ≡ 0x0000FF00) × (proposal-code (RefusedWith 7) ≡ 0x00000007)
+proposal-layout = (refl, refl, refl)
+
+abbrev pub ProposalFits : Proposal → Type 0
+ProposalFits (Chip p) = p < 45
+ProposalFits Nothing = Unit {0}
+ProposalFits (RefusedWith n) = (1 ≤ n) × (n < 256)
+
+pub proposal-back : (x : Proposal) → ProposalFits x → proposal-in (proposal-code x) ≡ x
+unfolding proposal-in
+proposal-back (Chip p) h =
+    let n : number-in (2 ^ 8 * p) ≡ 0 = omega arith in
+    let q : chip-in (2 ^ 8 * p) ≡ p = omega arith in
+    simp (n, q, ne-eqb p 255 (λ z. omega (arith, z)))
+proposal-back Nothing h = refl
+proposal-back (RefusedWith n) h =
+    let m : number-in n ≡ n = omega arith in
+    simp (m, ne-eqb n 0 (λ z. omega (arith, z)))
+
+-- the number in a code is that of the refusal
+pub proposal-number-in : (x : Proposal) → ProposalFits x → number-in (proposal-code x) ≡ proposal-number x
+proposal-number-in (Chip p) h = omega arith
+proposal-number-in Nothing h = refl
+proposal-number-in (RefusedWith n) h = omega arith
 
 -- ---- answers, of a call that refuses with the numbers ns
 module _ (ns : List ℕ) (some : numbered ns ≡ true) where

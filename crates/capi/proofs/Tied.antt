@@ -11,7 +11,7 @@ use denote.Triple.Clauses
 use denote.Ref.{now}
 use Rattle.marks.specs.declared.MarkCall.the-variants.{PlaceChip, LiftChip, PlaceCard, LiftCard}
 use Rattle.capi.specs.Exports.{StoreCoded, ReadCoded, ClearCoded, PutCoded, GetCoded, PatrolCoded, ReportCoded, MarkCoded}
-use Rattle.capi.specs.Exports.{WriteCoded, RegisterCoded, InterruptCoded}
+use Rattle.capi.specs.Exports.{WriteCoded, RegisterCoded, InterruptCoded, ClearWindowCoded, ProposeCoded}
 use Rattle.capi.proofs.livomashen_store as store
 use Rattle.capi.proofs.livomashen_store.Kinds as store-kinds
 use Rattle.capi.proofs.livomashen_store.Reads as store-reads
@@ -54,6 +54,12 @@ use Rattle.capi.proofs.livomashen_read_register.Reads as read-register-
 use Rattle.capi.proofs.livomashen_interrupt as interrupt
 use Rattle.capi.proofs.livomashen_interrupt.Kinds as interrupt-kinds
 use Rattle.capi.proofs.livomashen_interrupt.Reads as interrupt-reads
+use Rattle.capi.proofs.livomashen_clear_window as clear-window
+use Rattle.capi.proofs.livomashen_clear_window.Kinds as clear-window-kinds
+use Rattle.capi.proofs.livomashen_clear_window.Reads as clear-window-reads
+use Rattle.capi.proofs.livomashen_propose as propose
+use Rattle.capi.proofs.livomashen_propose.Kinds as propose-kinds
+use Rattle.capi.proofs.livomashen_propose.Reads as propose-reads
 
 -- store: record, output
 pub store-tied : (κs : Lifetimes.Lfts 2) (a : World.ArgsD store.signature κs) (r : World.ResD store.signature κs)
@@ -95,24 +101,25 @@ put-tied κs a r s l = l
 pub put-asks : (κs : Lifetimes.Lfts 2) (a : World.ArgsD put.signature κs) → put-reads.Asked κs a
 put-asks κs a = tt
 
--- get: bank, block number, marks, output
-pub get-tied : (κs : Lifetimes.Lfts 3) (a : World.ArgsD get.signature κs) (r : World.ResD get.signature κs)
-    (s : Clauses.AtExit (Kinds.endedOf 3 get-kinds.ps get-kinds.r) κs)
+-- get: bank, block number, marks, output, window
+pub get-tied : (κs : Lifetimes.Lfts 4) (a : World.ArgsD get.signature κs) (r : World.ResD get.signature κs)
+    (s : Clauses.AtExit (Kinds.endedOf 4 get-kinds.ps get-kinds.r) κs)
     → get-reads.Learnt κs a r s
-    → GetCoded (now (a .0)) (a .1 .0) (now (a .1 .1 .0)) (now (a .1 .1 .1 .0)) r (now (s .0)) (now (s .1 .1 .0)) (now (s .1 .1 .1 .0))
+    → GetCoded (now (a .0)) (a .1 .0) (now (a .1 .1 .0)) (now (a .1 .1 .1 .0)) (now (a .1 .1 .1 .1 .0)) r (now (s .0)) (now (s .1 .1 .0))
+    (now (s .1 .1 .1 .0)) (now (s .1 .1 .1 .1 .0))
 get-tied κs a r s l = l
 
-pub get-asks : (κs : Lifetimes.Lfts 3) (a : World.ArgsD get.signature κs) → get-reads.Asked κs a
+pub get-asks : (κs : Lifetimes.Lfts 4) (a : World.ArgsD get.signature κs) → get-reads.Asked κs a
 get-asks κs a = tt
 
--- patrol: bank, block number, marks
-pub patrol-tied : (κs : Lifetimes.Lfts 2) (a : World.ArgsD patrol.signature κs) (r : World.ResD patrol.signature κs)
-    (s : Clauses.AtExit (Kinds.endedOf 2 patrol-kinds.ps patrol-kinds.r) κs)
+-- patrol: bank, block number, marks, window
+pub patrol-tied : (κs : Lifetimes.Lfts 3) (a : World.ArgsD patrol.signature κs) (r : World.ResD patrol.signature κs)
+    (s : Clauses.AtExit (Kinds.endedOf 3 patrol-kinds.ps patrol-kinds.r) κs)
     → patrol-reads.Learnt κs a r s
-    → PatrolCoded (now (a .0)) (a .1 .0) (now (a .1 .1 .0)) r (now (s .0)) (now (s .1 .1 .0))
+    → PatrolCoded (now (a .0)) (a .1 .0) (now (a .1 .1 .0)) (now (a .1 .1 .1 .0)) r (now (s .0)) (now (s .1 .1 .0)) (now (s .1 .1 .1 .0))
 patrol-tied κs a r s l = l
 
-pub patrol-asks : (κs : Lifetimes.Lfts 2) (a : World.ArgsD patrol.signature κs) → patrol-reads.Asked κs a
+pub patrol-asks : (κs : Lifetimes.Lfts 3) (a : World.ArgsD patrol.signature κs) → patrol-reads.Asked κs a
 patrol-asks κs a = tt
 
 -- report: bank, marks
@@ -165,15 +172,15 @@ lift-card-tied κs a r s l = l
 pub lift-card-asks : (κs : Lifetimes.Lfts 1) (a : World.ArgsD lift-card.signature κs) → lift-card-reads.Asked κs a
 lift-card-asks κs a = tt
 
--- write register: registers, address, value, bank, output
-pub write-register-tied : (κs : Lifetimes.Lfts 3) (a : World.ArgsD write-register.signature κs) (r : World.ResD write-register.signature κs)
-    (s : Clauses.AtExit (Kinds.endedOf 3 write-register-kinds.ps write-register-kinds.r) κs)
+-- write register: registers, address, value, bank, output, window
+pub write-register-tied : (κs : Lifetimes.Lfts 4) (a : World.ArgsD write-register.signature κs) (r : World.ResD write-register.signature κs)
+    (s : Clauses.AtExit (Kinds.endedOf 4 write-register-kinds.ps write-register-kinds.r) κs)
     → write-register-reads.Learnt κs a r s
-    → WriteCoded (now (a .0)) (a .1 .0) (a .1 .1 .0) (now (a .1 .1 .1 .0)) (now (a .1 .1 .1 .1 .0)) r (now (s .0)) (now (s .1 .1 .1 .0))
-    (now (s .1 .1 .1 .1 .0))
+    → WriteCoded (now (a .0)) (a .1 .0) (a .1 .1 .0) (now (a .1 .1 .1 .0)) (now (a .1 .1 .1 .1 .0)) (now (a .1 .1 .1 .1 .1 .0)) r (now (s .0))
+    (now (s .1 .1 .1 .0)) (now (s .1 .1 .1 .1 .0)) (now (s .1 .1 .1 .1 .1 .0))
 write-register-tied κs a r s l = l
 
-pub write-register-asks : (κs : Lifetimes.Lfts 3) (a : World.ArgsD write-register.signature κs) → write-register-reads.Asked κs a
+pub write-register-asks : (κs : Lifetimes.Lfts 4) (a : World.ArgsD write-register.signature κs) → write-register-reads.Asked κs a
 write-register-asks κs a = tt
 
 -- read register: registers, address
@@ -195,3 +202,23 @@ interrupt-tied κs a r s l = l
 
 pub interrupt-asks : (κs : Lifetimes.Lfts 1) (a : World.ArgsD interrupt.signature κs) → interrupt-reads.Asked κs a
 interrupt-asks κs a = tt
+
+-- clear window: window
+pub clear-window-tied : (κs : Lifetimes.Lfts 1) (a : World.ArgsD clear-window.signature κs) (r : World.ResD clear-window.signature κs)
+    (s : Clauses.AtExit (Kinds.endedOf 1 clear-window-kinds.ps clear-window-kinds.r) κs)
+    → clear-window-reads.Learnt κs a r s
+    → ClearWindowCoded r (now (s .0))
+clear-window-tied κs a r s l = l
+
+pub clear-window-asks : (κs : Lifetimes.Lfts 1) (a : World.ArgsD clear-window.signature κs) → clear-window-reads.Asked κs a
+clear-window-asks κs a = tt
+
+-- propose: window, marks
+pub propose-tied : (κs : Lifetimes.Lfts 2) (a : World.ArgsD propose.signature κs) (r : World.ResD propose.signature κs)
+    (s : Clauses.AtExit (Kinds.endedOf 2 propose-kinds.ps propose-kinds.r) κs)
+    → propose-reads.Learnt κs a r s
+    → ProposeCoded (now (a .0)) (now (a .1 .0)) r (now (s .0)) (now (s .1 .0))
+propose-tied κs a r s l = l
+
+pub propose-asks : (κs : Lifetimes.Lfts 2) (a : World.ArgsD propose.signature κs) → propose-reads.Asked κs a
+propose-asks κs a = tt

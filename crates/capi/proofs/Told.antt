@@ -4,12 +4,13 @@
 --   told, told-under   every export's contract tells its answer
 --   store-told, read-told, clear-told, put-told, get-told, patrol-told, report-told, mark-told   the exports, each with all that was lent for reading as before
 --   mark-record-told   placing and lifting, of the record in the bytes
+--   clear-window-told  a window cleared; propose-told: the proposal
 --   write-told         a register write, of the registers in the bytes; command-told: a command, by the call's own relation
 --   register-told      the byte that a read gives; interrupt-told: the interrupt
-use Prim.Native.Nat.{ℕ, _<_}
+use Prim.Native.Nat.{ℕ, _<_, _≤_}
 use mathlib.Core.Path.{_≡_, refl, sym, ap, _∙_, subst}
 use mathlib.Core.Bool.{Bool, true, false}
-use mathlib.Core.Logic.{_↔_}
+use mathlib.Core.Logic.{_⊎_, inl, inr, _↔_}
 use mathlib.Core.List.{List, [], _∷_}
 use native.Mathlib.Omega.{arith}
 use lib.Dec.{ltb}
@@ -17,14 +18,19 @@ use lib.ListN.{length, getD}
 use Rattle.base.specs.Base.{if, bit}
 use Rattle.answer.specs.Answer.{Answer}
 use Rattle.answer.proofs.Gives.{Outcomes}
-use Rattle.marks.specs.Marks.{marks-in}
+use Rattle.marks.specs.Marks.{marks-in, marks-cause}
 use Rattle.marks.specs.Mark.{MarkDone}
 use Rattle.marks.specs.declared.Marks.{Marks}
 use Rattle.marks.specs.declared.MarkCall.{MarkCall}
 use Rattle.marks.specs.declared.MarkCall.the-variants.{PlaceChip, LiftChip, PlaceCard, LiftCard}
-use Rattle.marks.proofs.Gives.{mark-numbers}
+use Rattle.marks.proofs.Gives.{mark-numbers, marks-number}
 use Rattle.store.specs.Store.{StoreDone}
 use Rattle.block.specs.Read.{ReadDone}
+use Rattle.window.specs.Window.{fresh-window, proposal}
+use Rattle.window.specs.Plain.{ProposedExactly}
+use Rattle.window.specs.declared.Proposal.{Proposal}
+use Rattle.window.specs.declared.Proposal.the-variants.{Chip, Nothing, Refused as RefusedWith}
+use Rattle.window.proofs.Proposed.{proposed-exactly}
 use Rattle.bank.specs.Calls.{ClearDone, PutDone, GetDone, PatrolDone, ReportDone}
 use Rattle.bank.proofs.Gives.{clear-gives, put-gives, get-gives, patrol-gives, report-gives}
 use Rattle.registers.specs.Registers.{registers-in, is-set, raised}
@@ -34,11 +40,11 @@ use Rattle.registers.specs.declared.Value.the-variants.{Byte, Refused}
 use Rattle.registers.proofs.Plain.{raised-exactly, bytes-back}
 use Rattle.registers.proofs.Leaves.{commands-leave}
 use Rattle.registers.proofs.Formed.{write-gives}
-use Rattle.capi.specs.Codes.{code, value-code, outcome-in, reading-in, report-in, value-in}
+use Rattle.capi.specs.Codes.{code, value-code, proposal-code, outcome-in, reading-in, report-in, value-in, proposal-in}
 use Rattle.capi.specs.Exports.{Coded, CodedUnder, StoreCoded, ReadCoded, ClearCoded, PutCoded, GetCoded, PatrolCoded, ReportCoded, Marked, MarkCoded}
-use Rattle.capi.specs.Exports.{WriteCoded, RegisterCoded, InterruptCoded}
+use Rattle.capi.specs.Exports.{WriteCoded, RegisterCoded, InterruptCoded, ClearWindowCoded, ProposeCoded}
 use Rattle.capi.proofs.Gives.{store-gives, read-gives, mark-gives}
-use Rattle.capi.proofs.Codes.{ValueFits, value-back, outcome-back, reading-back, report-back}
+use Rattle.capi.proofs.Codes.{ValueFits, value-back, ProposalFits, proposal-back, outcome-back, reading-back, report-back}
 use Rattle.capi.proofs.Written.{accepted, marked-done, write-done}
 
 pub record Told (Says : Answer → Type 0) (f : ℕ → Answer) (c : ℕ) : Type 0 where
@@ -85,29 +91,53 @@ pub read-told : (b m out : List ℕ) (c : ℕ) (b′ m′ out′ : List ℕ) →
 read-told b m out c b′ m′ out′ w =
     told-under (λ n a. ReadDone b n out a b′ out′) reading-in (λ n a d. reading-back (1 ∷ 2 ∷ 6 ∷ 7 ∷ 10 ∷ []) refl a (read-gives b n out a b′ out′ d)) m c m′ w
 
-pub get-told : (bank : List ℕ) (k : ℕ) (m out : List ℕ) (c : ℕ) (bank′ m′ out′ : List ℕ) → GetCoded bank k m out c bank′ m′ out′
-    → Told (λ a. GetDone bank k (marks-in m) out a bank′ out′) reading-in c × (m′ ≡ m)
-get-told bank k m out c bank′ m′ out′ w =
-    told-under (λ n a. GetDone bank k n out a bank′ out′) reading-in
-    (λ n a d. reading-back (2 ∷ 4 ∷ 5 ∷ 6 ∷ 7 ∷ 10 ∷ []) refl a (get-gives bank k n out a bank′ out′ d)) m c m′ w
+pub get-told : (bank : List ℕ) (k : ℕ) (m out win : List ℕ) (c : ℕ) (bank′ m′ out′ win′ : List ℕ) → GetCoded bank k m out win c bank′ m′ out′ win′
+    → Told (λ a. GetDone bank k (marks-in m) out win a bank′ out′ win′) reading-in c × (m′ ≡ m)
+get-told bank k m out win c bank′ m′ out′ win′ w =
+    told-under (λ n a. GetDone bank k n out win a bank′ out′ win′) reading-in
+    (λ n a d. reading-back (2 ∷ 4 ∷ 5 ∷ 6 ∷ 7 ∷ 10 ∷ []) refl a (get-gives bank k n out win a bank′ out′ win′ d)) m c m′ w
 
-pub patrol-told : (bank : List ℕ) (k : ℕ) (m : List ℕ) (c : ℕ) (bank′ m′ : List ℕ) → PatrolCoded bank k m c bank′ m′
-    → Told (λ a. PatrolDone bank k (marks-in m) a bank′) reading-in c × (m′ ≡ m)
-patrol-told bank k m c bank′ m′ w =
-    told-under (λ n a. PatrolDone bank k n a bank′) reading-in
-    (λ n a d. reading-back (4 ∷ 5 ∷ 6 ∷ 7 ∷ 10 ∷ []) refl a (patrol-gives bank k n a bank′ d)) m c m′ w
+pub patrol-told : (bank : List ℕ) (k : ℕ) (m win : List ℕ) (c : ℕ) (bank′ m′ win′ : List ℕ) → PatrolCoded bank k m win c bank′ m′ win′
+    → Told (λ a. PatrolDone bank k (marks-in m) win a bank′ win′) reading-in c × (m′ ≡ m)
+patrol-told bank k m win c bank′ m′ win′ w =
+    told-under (λ n a. PatrolDone bank k n win a bank′ win′) reading-in
+    (λ n a d. reading-back (4 ∷ 5 ∷ 6 ∷ 7 ∷ 10 ∷ []) refl a (patrol-gives bank k n win a bank′ win′ d)) m c m′ w
 
 pub report-told : (bank m : List ℕ) (c : ℕ) (bank′ m′ : List ℕ) → ReportCoded bank m c bank′ m′
     → Told (λ a. ReportDone bank (marks-in m) a bank′) report-in c × (m′ ≡ m)
 report-told bank m c bank′ m′ w =
     told-under (λ n a. ReportDone bank n a bank′) report-in (λ n a d. report-back (4 ∷ 6 ∷ 7 ∷ []) refl a (report-gives bank n a bank′ d)) m c m′ w
 
+-- ---- the window
+pub clear-window-told : (c : ℕ) (win′ : List ℕ) → ClearWindowCoded c win′ → (c ≡ 0) × (win′ ≡ fresh-window)
+clear-window-told c win′ w = (w .coded ∙ ap code (w .says .0), w .says .1)
+
+-- the proposal is the one that the code tells, and all that was lent is as before
+pub propose-told : (win m : List ℕ) (c : ℕ) (win′ m′ : List ℕ) → ProposeCoded win m c win′ m′
+    → (proposal-in c ≡ proposal win (marks-in m)) × (win′ ≡ win) × (m′ ≡ m)
+propose-told win m c win′ m′ w =
+    (ap proposal-in (w .coded ∙ ap proposal-code (w .says .proposed)) ∙ proposal-back _ (fits (proposal win (marks-in m)) refl), w .says .kept, w .kept)
+  where
+    exact : ProposedExactly win (marks-in m)
+    exact = proposed-exactly win (marks-in m)
+
+    fits : (x : Proposal) → proposal win (marks-in m) ≡ x → ProposalFits x
+    fits (Chip p) e = exact .chip p .0 e .1 .position
+    fits Nothing e = tt
+    fits (RefusedWith n) e =
+        let h = exact .refused n .0 e in
+        pick (h .0) (marks-number (marks-in m) (λ z. h .1 (h .0 ∙ z)))
+      where
+        pick : n ≡ marks-cause (marks-in m) → (marks-cause (marks-in m) ≡ 6) ⊎ (marks-cause (marks-in m) ≡ 7) → (1 ≤ n) × (n < 256)
+        pick q (inl k) = (omega arith, omega arith)
+        pick q (inr k) = (omega arith, omega arith)
+
 -- ---- registers
-pub write-told : (b : List ℕ) (a v : ℕ) (bank out : List ℕ) (c : ℕ) (b′ bank′ out′ : List ℕ) → WriteCoded b a v bank out c b′ bank′ out′
-    → Told (λ x. WriteDone (registers-in b) a v bank out x (registers-in b′) bank′ out′) outcome-in c
-write-told b a v bank out c b′ bank′ out′ w =
-    told _ outcome-in (λ x d. outcome-back (12 ∷ 13 ∷ 14 ∷ []) refl x (write-gives (registers-in b) a v bank out x (registers-in b′) bank′ out′ d)) c
-    (record { answer = w .answer; says = write-done b a v bank out (w .answer) b′ bank′ out′ (w .says); coded = w .coded })
+pub write-told : (b : List ℕ) (a v : ℕ) (bank out win : List ℕ) (c : ℕ) (b′ bank′ out′ win′ : List ℕ) → WriteCoded b a v bank out win c b′ bank′ out′ win′
+    → Told (λ x. WriteDone (registers-in b) a v bank out win x (registers-in b′) bank′ out′ win′) outcome-in c
+write-told b a v bank out win c b′ bank′ out′ win′ w =
+    told _ outcome-in (λ x d. outcome-back (12 ∷ 13 ∷ 14 ∷ []) refl x (write-gives (registers-in b) a v bank out win x (registers-in b′) bank′ out′ win′ d)) c
+    (record { answer = w .answer; says = write-done b a v bank out win (w .answer) b′ bank′ out′ win′ (w .says); coded = w .coded })
 
 -- twelve bytes: the one at the address, or 12
 pub register-told : (b : List ℕ) → length b ≡ 12 → ((p : ℕ) → getD b p 0 < 256) → (a c : ℕ) (b′ : List ℕ) → RegisterCoded b a c b′
@@ -121,13 +151,13 @@ register-told b l h a c b′ (e, k) =
     fits false = h a
 
 -- a command through C: what its call says, with the answer that bytes 4 and 5 tell
-pub command-told : (b : List ℕ) (v : ℕ) (bank out : List ℕ) (b′ bank′ out′ : List ℕ) → WriteCoded b 0 v bank out 0 b′ bank′ out′
-    → Runs (registers-in b .marks) (command-of (registers-in b) v) bank out (answer-in (getD b′ 4 0) (getD b′ 5 0)) (registers-in b′ .marks) bank′ out′
+pub command-told : (b : List ℕ) (v : ℕ) (bank out win : List ℕ) (b′ bank′ out′ win′ : List ℕ) → WriteCoded b 0 v bank out win 0 b′ bank′ out′ win′
+    → Runs (registers-in b .marks) (command-of (registers-in b) v) bank out win (answer-in (getD b′ 4 0) (getD b′ 5 0)) (registers-in b′ .marks) bank′ out′ win′
 unfolding WriteDone registers-in
-command-told b v bank out b′ bank′ out′ w =
-    let t = write-told b 0 v bank out 0 b′ bank′ out′ w in
+command-told b v bank out win b′ bank′ out′ win′ w =
+    let t = write-told b 0 v bank out win 0 b′ bank′ out′ win′ w in
     let n = accepted (write-cause (registers-in b) 0 v) (outcome-in 0) _ _ (t .says) (sym (t .coded)) in
-    commands-leave (registers-in b) v bank out (outcome-in 0) (registers-in b′) bank′ out′ n (t .says) .call
+    commands-leave (registers-in b) v bank out win (outcome-in 0) (registers-in b′) bank′ out′ win′ n (t .says) .call
 
 -- 1 exactly while bytes 6 and 7 share a set bit
 pub interrupt-told : (b : List ℕ) (c : ℕ) (b′ : List ℕ) → InterruptCoded b c b′

@@ -72,12 +72,12 @@ marked-done b call a b′ w = by-map (mark-cause (marks-in b) call) a (b′ ≡ 
 
 -- ---- registers
 -- a write on the registers r in the bytes b: it answers x, of which c is the code, and r′ are the registers after it
-module _ (b : List ℕ) (a v : ℕ) (bank out : List ℕ) (r : Registers) (x : Answer) (r′ : Registers) (bank′ out′ : List ℕ) (c : ℕ)
-    (in-bytes : r ≡ registers-in b) (said : WriteDone r a v bank out x r′ bank′ out′) (coded : c ≡ code x) where
-  on-registers : WriteDone (registers-in b) a v bank out x r′ bank′ out′
-  on-registers = subst (λ (s : Registers). WriteDone s a v bank out x r′ bank′ out′) in-bytes said
+module _ (b : List ℕ) (a v : ℕ) (bank out win : List ℕ) (r : Registers) (x : Answer) (r′ : Registers) (bank′ out′ win′ : List ℕ) (c : ℕ)
+    (in-bytes : r ≡ registers-in b) (said : WriteDone r a v bank out win x r′ bank′ out′ win′) (coded : c ≡ code x) where
+  on-registers : WriteDone (registers-in b) a v bank out win x r′ bank′ out′ win′
+  on-registers = subst (λ (s : Registers). WriteDone s a v bank out win x r′ bank′ out′ win′) in-bytes said
 
-  pub write-back : c ≡ 0 → (b′ : List ℕ) → b′ ≡ register-bytes r′ → WriteCoded b a v bank out c b′ bank′ out′
+  pub write-back : c ≡ 0 → (b′ : List ℕ) → b′ ≡ register-bytes r′ → WriteCoded b a v bank out win c b′ bank′ out′ win′
   unfolding WriteDone
   write-back z b′ e = record {
     answer = x;
@@ -85,7 +85,7 @@ module _ (b : List ℕ) (a v : ℕ) (bank out : List ℕ) (r : Registers) (x : A
     coded = coded;
   }
 
-  pub write-left : c ≢ 0 → WriteCoded b a v bank out c b bank′ out′
+  pub write-left : c ≢ 0 → WriteCoded b a v bank out win c b bank′ out′ win′
   unfolding WriteDone
   write-left ne = record {
     answer = x;
@@ -94,18 +94,20 @@ module _ (b : List ℕ) (a v : ℕ) (bank out : List ℕ) (r : Registers) (x : A
   }
 
 -- the registers after it are those in the bytes after it
-pub write-done : (b : List ℕ) (a v : ℕ) (bank out : List ℕ) (x : Answer) (b′ bank′ out′ : List ℕ) → RegisterWritten b a v bank out x b′ bank′ out′
-    → WriteDone (registers-in b) a v bank out x (registers-in b′) bank′ out′
+pub write-done : (b : List ℕ) (a v : ℕ) (bank out win : List ℕ) (x : Answer) (b′ bank′ out′ win′ : List ℕ)
+    → RegisterWritten b a v bank out win x b′ bank′ out′ win′
+    → WriteDone (registers-in b) a v bank out win x (registers-in b′) bank′ out′ win′
 unfolding WriteDone
-write-done b a v bank out x b′ bank′ out′ (r′, w, h) = subst (λ (s : Registers). WriteDone (registers-in b) a v bank out x s bank′ out′) (sym same) w
+write-done b a v bank out win x b′ bank′ out′ win′ (r′, w, h) =
+    subst (λ (s : Registers). WriteDone (registers-in b) a v bank out win x s bank′ out′ win′) (sym same) w
   where
     formed : Formed r′
-    formed = write-formed (registers-in b) a v bank out x r′ bank′ out′ (formed-in b) w
+    formed = write-formed (registers-in b) a v bank out win x r′ bank′ out′ win′ (formed-in b) w
 
-    by : (n : ℕ) (D : Type 0) → By n x ((r′ ≡ registers-in b) × (bank′ ≡ bank) × (out′ ≡ out)) D → By n x (b′ ≡ b) (b′ ≡ register-bytes r′)
+    by : (n : ℕ) (D : Type 0) → By n x ((r′ ≡ registers-in b) × (bank′ ≡ bank) × (out′ ≡ out) × (win′ ≡ win)) D → By n x (b′ ≡ b) (b′ ≡ register-bytes r′)
         → registers-in b′ ≡ r′
     by zero D d e = ap registers-in e ∙ formed-back r′ formed
-    by (suc n) D (q, (e, u, o)) (p, f) = ap registers-in f ∙ sym e
+    by (suc n) D (q, (e, u, o, i)) (p, f) = ap registers-in f ∙ sym e
 
     same : registers-in b′ ≡ r′
     same = by (write-cause (registers-in b) a v) _ w h

@@ -3,15 +3,19 @@
 --   code a      bits 0 to 7 the number; 8 to 15 the kind (0 clean, 1 chips, 2 card); 16 to 23 the card; 24 to 31 n.
 --               Of a report: bits 0 to 7 the number; from bit 8 the totals, 11 bits each: clean, chips, card, none, several
 --   value-code  of a register that is read: bits 0 to 7 the number, 8 to 15 the byte
+--   proposal-code   of a proposal: bits 0 to 7 the number, 8 to 15 the chip, 255 for none
 --   bits i l c  the l bits of c from bit i on: C's shift by i, and its mask
 --   number-in, kind-in, card-in, n-in                        livomashen_split_answer
 --   number-in, clean-in, chips-in, cards-in, none-in, several-in   livomashen_split_report
 --   number-in, byte-in                                       livomashen_split_register
---   outcome-in, reading-in, report-in, value-in   what the parts of a code tell: of a call that is done or refused, of a reading, of a report,
---               of a register
+--   number-in, chip-in                                       livomashen_split_proposal
+--   outcome-in, reading-in, report-in, value-in, proposal-in   what the parts of a code tell: of a call that is done or refused, of a reading,
+--               of a report, of a register, of a proposal
 use Prim.Native.Nat.{ℕ, _+_, _*_, _/_, _%_, _^_}
 use lib.Dec.{eqb}
 use Rattle.base.specs.Base.{if}
+use Rattle.window.specs.declared.Proposal.{Proposal}
+use Rattle.window.specs.declared.Proposal.the-variants.{Chip, Nothing, Refused as RefusedWith}
 use Rattle.registers.specs.declared.Value.{Value}
 use Rattle.registers.specs.declared.Value.the-variants.{Byte, Refused}
 use Rattle.answer.specs.Answer.{Answer, done, clean, in-chips, in-card, counted, refused, refused-card}
@@ -37,6 +41,11 @@ abbrev pub value-code : Value → ℕ
 value-code (Byte x) = 2 ^ 8 * x
 value-code (Refused n) = n
 
+abbrev pub proposal-code : Proposal → ℕ
+proposal-code (Chip p) = 2 ^ 8 * p
+proposal-code Nothing = 2 ^ 8 * 255
+proposal-code (RefusedWith n) = n
+
 -- ---- a code taken apart
 abbrev pub bits : ℕ → ℕ → ℕ → ℕ
 bits i l c = c / 2 ^ i % 2 ^ l
@@ -55,6 +64,9 @@ n-in c = bits 24 8 c
 
 abbrev pub byte-in : ℕ → ℕ
 byte-in c = bits 8 8 c
+
+abbrev pub chip-in : ℕ → ℕ
+chip-in c = bits 8 8 c
 
 abbrev pub clean-in : ℕ → ℕ
 clean-in c = bits 8 11 c
@@ -94,3 +106,6 @@ report-in c = by-number (number-in c) (counted (clean-in c) (chips-in c) (cards-
 
 unfoldable pub value-in : ℕ → Value
 value-in c = if (eqb (number-in c) 0) (Byte (byte-in c)) (Refused (number-in c))
+
+unfoldable pub proposal-in : ℕ → Proposal
+proposal-in c = if (eqb (number-in c) 0) (if (eqb (chip-in c) 255) Nothing (Chip (chip-in c))) (RefusedWith (number-in c))

@@ -4,6 +4,7 @@
 --   CodedUnder Says m c m′   the same, of a call under the mark record in the bytes m, which are as before
 --   StoreCoded, ReadCoded, ClearCoded, PutCoded, GetCoded, PatrolCoded, ReportCoded
 --   MarkCoded                placing and lifting, in the bytes themselves
+--   ClearWindowCoded         a window cleared; ProposeCoded: the proposal, under the mark record in the bytes
 --   WriteCoded               a register written, in the twelve bytes themselves; RegisterCoded: one read; InterruptCoded: the interrupt
 --
 -- A primed name is what the bytes hold after the call.
@@ -19,10 +20,12 @@ use Rattle.marks.specs.declared.MarkCall.{MarkCall}
 use Rattle.store.specs.Store.{StoreDone}
 use Rattle.block.specs.Read.{ReadDone}
 use Rattle.bank.specs.Calls.{ClearDone, PutDone, GetDone, PatrolDone, ReportDone}
+use Rattle.window.specs.Window.{ClearWindowDone, ProposeDone}
+use Rattle.window.specs.declared.Proposal.{Proposal}
 use Rattle.registers.specs.Registers.{register-bytes, registers-in, raised}
 use Rattle.registers.specs.Write.{write-cause, WriteDone, read-value}
 use Rattle.registers.specs.declared.Registers.{Registers}
-use Rattle.capi.specs.Codes.{code, value-code}
+use Rattle.capi.specs.Codes.{code, value-code, proposal-code}
 
 pub record Coded (Says : Answer → Type 0) (c : ℕ) : Type 0 where
   pub answer : Answer
@@ -47,11 +50,11 @@ ClearCoded bank c bank′ = Coded (λ a. ClearDone bank a bank′) c
 abbrev pub PutCoded : List ℕ → ℕ → List ℕ → ℕ → List ℕ → List ℕ → Type 0
 PutCoded bank k rec c bank′ rec′ = Coded (λ a. PutDone bank k rec a bank′ rec′) c
 
-abbrev pub GetCoded : List ℕ → ℕ → List ℕ → List ℕ → ℕ → List ℕ → List ℕ → List ℕ → Type 0
-GetCoded bank k m out c bank′ m′ out′ = CodedUnder (λ n a. GetDone bank k n out a bank′ out′) m c m′
+abbrev pub GetCoded : List ℕ → ℕ → List ℕ → List ℕ → List ℕ → ℕ → List ℕ → List ℕ → List ℕ → List ℕ → Type 0
+GetCoded bank k m out w c bank′ m′ out′ w′ = CodedUnder (λ n a. GetDone bank k n out w a bank′ out′ w′) m c m′
 
-abbrev pub PatrolCoded : List ℕ → ℕ → List ℕ → ℕ → List ℕ → List ℕ → Type 0
-PatrolCoded bank k m c bank′ m′ = CodedUnder (λ n a. PatrolDone bank k n a bank′) m c m′
+abbrev pub PatrolCoded : List ℕ → ℕ → List ℕ → List ℕ → ℕ → List ℕ → List ℕ → List ℕ → Type 0
+PatrolCoded bank k m w c bank′ m′ w′ = CodedUnder (λ n a. PatrolDone bank k n w a bank′ w′) m c m′
 
 abbrev pub ReportCoded : List ℕ → List ℕ → ℕ → List ℕ → List ℕ → Type 0
 ReportCoded bank m c bank′ m′ = CodedUnder (λ n a. ReportDone bank n a bank′) m c m′
@@ -63,14 +66,24 @@ Marked m call a m′ = By (mark-cause (marks-in m) call) a (m′ ≡ m) ((a ≡ 
 abbrev pub MarkCoded : List ℕ → MarkCall → ℕ → List ℕ → Type 0
 MarkCoded m call c m′ = Coded (λ a. Marked m call a m′) c
 
+abbrev pub ClearWindowCoded : ℕ → List ℕ → Type 0
+ClearWindowCoded c w′ = Coded (λ a. ClearWindowDone a w′) c
+
+-- window and marks are as before
+pub record ProposeCoded (w m : List ℕ) (c : ℕ) (w′ m′ : List ℕ) : Type 0 where
+  pub proposal : Proposal
+  pub says : ProposeDone w (marks-in m) proposal w′
+  pub coded : c ≡ proposal-code proposal
+  pub kept : m′ ≡ m
+
 -- the bytes of the registers after the write; a refused write leaves them
-abbrev pub RegisterWritten : List ℕ → ℕ → ℕ → List ℕ → List ℕ → Answer → List ℕ → List ℕ → List ℕ → Type 0
-RegisterWritten b a v bank out x b′ bank′ out′ =
-    (r′ : Registers) × WriteDone (registers-in b) a v bank out x r′ bank′ out′
+abbrev pub RegisterWritten : List ℕ → ℕ → ℕ → List ℕ → List ℕ → List ℕ → Answer → List ℕ → List ℕ → List ℕ → List ℕ → Type 0
+RegisterWritten b a v bank out w x b′ bank′ out′ w′ =
+    (r′ : Registers) × WriteDone (registers-in b) a v bank out w x r′ bank′ out′ w′
     × By (write-cause (registers-in b) a v) x (b′ ≡ b) (b′ ≡ register-bytes r′)
 
-abbrev pub WriteCoded : List ℕ → ℕ → ℕ → List ℕ → List ℕ → ℕ → List ℕ → List ℕ → List ℕ → Type 0
-WriteCoded b a v bank out c b′ bank′ out′ = Coded (λ x. RegisterWritten b a v bank out x b′ bank′ out′) c
+abbrev pub WriteCoded : List ℕ → ℕ → ℕ → List ℕ → List ℕ → List ℕ → ℕ → List ℕ → List ℕ → List ℕ → List ℕ → Type 0
+WriteCoded b a v bank out w c b′ bank′ out′ w′ = Coded (λ x. RegisterWritten b a v bank out w x b′ bank′ out′ w′) c
 
 -- the byte, or 12; and the bytes are as before
 abbrev pub RegisterCoded : List ℕ → ℕ → ℕ → List ℕ → Type 0

@@ -1,16 +1,17 @@
 // Answers as codes: bits 0 to 7 are the number; 8 to 15 the kind, 16 to 23 the card, 24 to 31 n; of a report, the totals from bit 8; of a
-// register, its byte from bit 8.
+// register, its byte from bit 8; of a proposal, the chip from bit 8, 255 for none.
 ghost use mathlib.Core.Path.{_≡_};
 ghost use Prim.Native.Nat.{_≤_};
 ghost use Rattle.answer.specs.Answer.{outcome-answer};
 ghost use Rattle.reading.specs.Reading.{reading-answer};
 ghost use Rattle.reading.specs.declared.Reading.the-variants.{Corrected};
-ghost use Rattle.capi.specs.Codes.{code, packed, packed-totals, value-code};
+ghost use Rattle.capi.specs.Codes.{code, packed, packed-totals, value-code, proposal-code};
 use answer::Outcome;
 use bank::Totals;
 use reading::Kind;
 use reading::Reading;
 use registers::Value;
+use window::Proposal;
 
 fn packed(number: u8, kind: u8, card: u8, n: u8) -> u32
     ensures { λ c. ⌜ c ≡ packed number kind card n ⌝ }
@@ -67,5 +68,16 @@ pub(crate) fn of_value(x: Value) -> u32
     match x {
         Value::Byte(b) => 256 * (b as u32),
         Value::Refused(n) => n as u32,
+    }
+}
+
+// A chip above the number; 255 for none.
+pub(crate) fn of_proposal(x: Proposal) -> u32
+    ensures { λ c. ⌜ c ≡ proposal-code x ⌝ }
+{
+    match x {
+        Proposal::Chip(p) => 256 * (p as u32),
+        Proposal::Nothing => 65280,
+        Proposal::Refused(n) => n as u32,
     }
 }

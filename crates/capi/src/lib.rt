@@ -1,11 +1,11 @@
 // The library for C and Rust: numbers and lent bytes alone. Each export is one call of the library, and its answer as a code.
 //
 // Marks come in four bytes. Bytes of another length are a record outside its ranges, and so is a chip or a card of any other number.
-// Registers come in twelve, as an array, which has no other length.
+// Registers come in twelve and the window in 64, as arrays, which have no other length.
 mod encode;
 
 ghost use Rattle.capi.specs.Exports.{StoreCoded, ReadCoded, ClearCoded, PutCoded, GetCoded, PatrolCoded, ReportCoded, MarkCoded};
-ghost use Rattle.capi.specs.Exports.{WriteCoded, RegisterCoded, InterruptCoded};
+ghost use Rattle.capi.specs.Exports.{WriteCoded, RegisterCoded, InterruptCoded, ClearWindowCoded, ProposeCoded};
 ghost use Rattle.marks.specs.declared.MarkCall.the-variants.{PlaceChip, LiftChip, PlaceCard, LiftCard};
 use marks::MarkCall;
 
@@ -38,17 +38,25 @@ pub extern "C" fn livomashen_put(bank: &mut [u8], k: usize, rec: &[u8]) -> u32
 }
 
 #[no_mangle]
-pub extern "C" fn livomashen_get(bank: &[u8], k: usize, m: &[u8], out: &mut [u8]) -> u32
-    ensures { λ c. ⌜ GetCoded (now (bank .entry)) k (now (m .entry)) (now (out .entry)) c (now (bank .exit)) (now (m .exit)) (now (out .exit)) ⌝ }
+pub extern "C" fn livomashen_get(
+    bank: &[u8],
+    k: usize,
+    m: &[u8],
+    out: &mut [u8],
+    w: &mut [u8; 64],
+) -> u32
+    ensures { λ c.
+        ⌜ GetCoded (now (bank .entry)) k (now (m .entry)) (now (out .entry)) (now (w .entry)) c (now (bank .exit)) (now (m .exit)) (now (out .exit))
+        (now (w .exit)) ⌝ }
 {
-    encode::of_reading(bank::get(bank, k, marks::from_slice(m), out))
+    encode::of_reading(bank::get(bank, k, marks::from_slice(m), out, w))
 }
 
 #[no_mangle]
-pub extern "C" fn livomashen_patrol(bank: &mut [u8], k: usize, m: &[u8]) -> u32
-    ensures { λ c. ⌜ PatrolCoded (now (bank .entry)) k (now (m .entry)) c (now (bank .exit)) (now (m .exit)) ⌝ }
+pub extern "C" fn livomashen_patrol(bank: &mut [u8], k: usize, m: &[u8], w: &mut [u8; 64]) -> u32
+    ensures { λ c. ⌜ PatrolCoded (now (bank .entry)) k (now (m .entry)) (now (w .entry)) c (now (bank .exit)) (now (m .exit)) (now (w .exit)) ⌝ }
 {
-    encode::of_reading(bank::patrol(bank, k, marks::from_slice(m)))
+    encode::of_reading(bank::patrol(bank, k, marks::from_slice(m), w))
 }
 
 #[no_mangle]
@@ -111,13 +119,15 @@ pub extern "C" fn livomashen_write_register(
     v: u8,
     bank: &mut [u8],
     out: &mut [u8],
+    w: &mut [u8; 64],
 ) -> u32
     ensures { λ c.
-        ⌜ WriteCoded (now (r .entry)) a v (now (bank .entry)) (now (out .entry)) c (now (r .exit)) (now (bank .exit)) (now (out .exit)) ⌝ }
+        ⌜ WriteCoded (now (r .entry)) a v (now (bank .entry)) (now (out .entry)) (now (w .entry)) c (now (r .exit)) (now (bank .exit)) (now (out .exit))
+        (now (w .exit)) ⌝ }
 {
-    let w = registers::write(registers::from_bytes(r), a, v, bank, out);
-    let answer = w.answer;
-    let after = w.registers;
+    let written = registers::write(registers::from_bytes(r), a, v, bank, out, w);
+    let answer = written.answer;
+    let after = written.registers;
     let c = encode::of_outcome(answer);
     if c != 0 {
         return c;
@@ -143,4 +153,20 @@ pub extern "C" fn livomashen_interrupt(r: &[u8; 12]) -> u32
         return 1;
     }
     0
+}
+
+// Makes a window hold nothing.
+#[no_mangle]
+pub extern "C" fn livomashen_clear_window(w: &mut [u8; 64]) -> u32
+    ensures { λ c. ⌜ ClearWindowCoded c (now (w .exit)) ⌝ }
+{
+    encode::of_outcome(window::clear(w))
+}
+
+// The chip that the window proposes to mark.
+#[no_mangle]
+pub extern "C" fn livomashen_propose(w: &[u8; 64], m: &[u8]) -> u32
+    ensures { λ c. ⌜ ProposeCoded (now (w .entry)) (now (m .entry)) c (now (w .exit)) (now (m .exit)) ⌝ }
+{
+    encode::of_proposal(window::propose(w, marks::from_slice(m)))
 }

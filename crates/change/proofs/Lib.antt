@@ -1,3 +1,4 @@
 pub mod Made
 pub mod Weight
+pub mod Listed
 pub mod Tied

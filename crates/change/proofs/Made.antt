@@ -17,16 +17,16 @@ use lib.ListN.{length, getD, set, length-set}
 use lib.Seq.{getD-set-same, getD-set-other}
 use borrow.Author.Tests.{eq-eqb, ne-eqb, lt-ltb, le-ltb, ltb-true, ltb-false}
 use Rattle.field.specs.Field.{_⊕_}
-use Rattle.base.proofs.Tests.{same, every-at}
+use Rattle.base.proofs.Tests.{same, every-at, and-no, and-yes}
 use Rattle.field.proofs.Xor.{add-assoc, add-self, add-zero, zero-add, sums}
 use Rattle.code.specs.Block.{byte, block-of}
 use Rattle.code.proofs.Blocks.{same-block, block-of-at, block-of-length}
 use Rattle.base.specs.Base.{if}
-use Rattle.change.specs.Change.{adds, applied, no-change, Added, RowsAdded}
+use Rattle.change.specs.Change.{adds, applied, no-change, AddedAt, RowsAdded}
 use Rattle.change.specs.declared.Change.{Change}
 
 -- ---- at one position
-pub added : (b : List ℕ) (at x y : ℕ) → at < length b → y ≡ byte b at ⊕ x → Added at x b (set b at y)
+pub added : (b : List ℕ) (at x y : ℕ) → at < length b → y ≡ byte b at ⊕ x → AddedAt at x b (set b at y)
 added b at x y h e = (length-set b at y, λ r l. go r l (same r at))
   where
     go : (r : ℕ) → r < length b → (r ≡ at) ⊎ (r ≢ at) → byte (set b at y) r ≡ byte b r ⊕ if (eqb r at) x 0
@@ -34,7 +34,7 @@ added b at x y h e = (length-set b at y, λ r l. go r l (same r at))
         (rw (eq-eqb at at refl) (getD-set-same b at y 0 h ∙ e))
     go r l (inr q) = rw (ne-eqb r at q) (getD-set-other b at r y 0 q ∙ sym (add-zero (byte b r)))
 
-pub not-added : (b : List ℕ) (at x : ℕ) → length b ≤ at → Added at x b b
+pub not-added : (b : List ℕ) (at x : ℕ) → length b ≤ at → AddedAt at x b b
 not-added b at x h = (refl, λ r l. rw (ne-eqb r at (λ z. omega arith)) (sym (add-zero (byte b r))))
 
 -- ---- the rows z below n, of card j
@@ -48,18 +48,10 @@ pub record Rows (b : List ℕ) (j : ℕ) (z : List ℕ) (n : ℕ) (block : List 
   pub long : length block ≡ 45
   pub changed : (r : ℕ) → r < 45 → byte block r ≡ byte b r ⊕ if (below j n r) (row z r) 0
 
-and-false : (t : Bool) → t && false ≡ false
-and-false true = refl
-and-false false = refl
-
-and-true : (t : Bool) → t && true ≡ t
-and-true true = refl
-and-true false = refl
-
 pub rows-start : (b : List ℕ) (j : ℕ) (z : List ℕ) → length b ≡ 45 → Rows b j z 0 b
 rows-start b j z l = record {
   long = l;
-  changed = λ r h. rw (le-ltb (r % 9) 0 (omega arith), and-false (eqb (r / 9) j)) (sym (add-zero (byte b r)));
+  changed = λ r h. rw (le-ltb (r % 9) 0 (omega arith), and-no (eqb (r / 9) j)) (sym (add-zero (byte b r)));
 }
 
 -- one more row
@@ -84,7 +76,7 @@ step j z n x r h e = go (same r (9 * j + n))
     go (inr q) = rw (ne-eqb r (9 * j + n) q)
         (add-zero (if (below j n r) (row z r) 0) ∙ ap (λ (t : Bool). if t (row z r) 0) (other q (same (r / 9) j)))
 
-pub rows-more : (b : List ℕ) (j : ℕ) (z : List ℕ) (n x : ℕ) (block block′ : List ℕ) → n < 9 → x ≡ getD z n 0 → Added (9 * j + n) x block block′
+pub rows-more : (b : List ℕ) (j : ℕ) (z : List ℕ) (n x : ℕ) (block block′ : List ℕ) → n < 9 → x ≡ getD z n 0 → AddedAt (9 * j + n) x block block′
     → Rows b j z n block → Rows b j z (n + 1) block′
 rows-more b j z n x block block′ h e a w = record {
   long = a .0 ∙ w .long;
@@ -99,7 +91,7 @@ rows-end b j z n block l h w = (
   w .long ∙ sym l,
   λ r lr. w .changed r (subst (λ (i : ℕ). r < i) l lr)
       ∙ ap (λ (t : Bool). byte b r ⊕ if (eqb (r / 9) j && t) (row z r) 0) (lt-ltb (r % 9) n (omega arith))
-      ∙ ap (λ (t : Bool). byte b r ⊕ if t (row z r) 0) (and-true (eqb (r / 9) j)),
+      ∙ ap (λ (t : Bool). byte b r ⊕ if t (row z r) 0) (and-yes (eqb (r / 9) j)),
 )
 
 pub no-card : (b : List ℕ) (j : ℕ) (z : List ℕ) → length b ≡ 45 → 4 < j → RowsAdded j z b b
@@ -120,7 +112,7 @@ module _ (b : List ℕ) (d : Change) (l : length b ≡ 45) where
   pub applied-at : (r : ℕ) → r < 45 → byte (applied b d) r ≡ byte b r ⊕ adds d r
   applied-at r h = ap (λ (x : List ℕ). byte x r) applied-is ∙ block-of-at (λ r. byte b r ⊕ adds d r) r h
 
-  pub applied-end : (b₁ b₂ b₃ : List ℕ) → RowsAdded (d .card) (d .rows) b b₁ → Added (d .p) (d .e) b₁ b₂ → Added (d .q) (d .f) b₂ b₃ → b₃ ≡ applied b d
+  pub applied-end : (b₁ b₂ b₃ : List ℕ) → RowsAdded (d .card) (d .rows) b b₁ → AddedAt (d .p) (d .e) b₁ b₂ → AddedAt (d .q) (d .f) b₂ b₃ → b₃ ≡ applied b d
   applied-end b₁ b₂ b₃ w a c = same-block b₃ (applied b d) (c .0 ∙ a .0 ∙ long) applied-long (λ r h. at r h ∙ sym (applied-at r h))
     where
       long : length b₁ ≡ 45

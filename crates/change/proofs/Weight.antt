@@ -16,7 +16,7 @@ use lib.Dec.{eqb}
 use lib.ListN.{length, getD}
 use borrow.Author.Tests.{eqb-true, eqb-false, eq-eqb, ne-eqb, not-false}
 use Rattle.base.specs.Base.{if, bit, tally}
-use Rattle.base.proofs.Tests.{same}
+use Rattle.base.proofs.Tests.{same, and-no}
 use Rattle.base.proofs.Tally.{clash, tally-ext, tally-never, tally-none, tally-some, tally-add, tally-point, tally-card}
 use Rattle.field.specs.Field.{_⊕_}
 use Rattle.field.proofs.Xor.{add-zero, zero-add, add-self-left, add-self}
@@ -45,10 +45,6 @@ if-zero : (t : Bool) (v : ℕ) → v ≡ 0 → if t v 0 ≡ 0
 if-zero true v e = e
 if-zero false v e = refl
 
-and-false : (t : Bool) → t && false ≡ false
-and-false true = refl
-and-false false = refl
-
 -- the sum is the same byte exactly where nothing is added
 xor-eqb : (a v : ℕ) → eqb a (a ⊕ v) ≡ eqb v 0
 xor-eqb a v = go (same v 0)
@@ -58,7 +54,7 @@ xor-eqb a v = go (same v 0)
     go (inr e) = ne-eqb a (a ⊕ v) (λ q. e (sym (add-self-left a v) ∙ ap (λ (x : ℕ). a ⊕ x) (sym q) ∙ add-self a)) ∙ sym (ne-eqb v 0 e)
 
 module _ (b : List ℕ) (d : Change) (l : length b ≡ 45) where
-  test-is : (p : ℕ) → p < 45 → eqb (byte b p) (byte (applied b d) p) ≡ eqb (adds d p) 0
+  pub test-is : (p : ℕ) → p < 45 → eqb (byte b p) (byte (applied b d) p) ≡ eqb (adds d p) 0
   test-is p h = ap (eqb (byte b p)) (applied-at b d l p h) ∙ xor-eqb (byte b p) (adds d p)
 
   pub same-at : (p : ℕ) → p < 45 → adds d p ≡ 0 → byte b p ≡ byte (applied b d) p
@@ -114,7 +110,7 @@ module _ (d : Change) (w : WellFormed d) where
 
   one-place : (p e : ℕ) → (e ≡ 0) ⊎ (p < 45) → tally 45 (at p e) ≡ bit (nonzero e)
   one-place p e (inl z) =
-      tally-never 45 (at p e) (λ i l. ap (λ (t : Bool). eqb i p && t) (zero-not e z) ∙ and-false (eqb i p)) ∙ ap bit (sym (zero-not e z))
+      tally-never 45 (at p e) (λ i l. ap (λ (t : Bool). eqb i p && t) (zero-not e z) ∙ and-no (eqb i p)) ∙ ap bit (sym (zero-not e z))
   one-place p e (inr l) = tally-point 45 p (nonzero e) l
 
   none-on-card : (r p e : ℕ) → if (eqb r p) e 0 ≡ 0 → bit (at p e r) ≡ 0

@@ -12,3 +12,4 @@ pub mod Unique
 pub mod Members
 pub mod Stored
 pub mod Tied
+pub mod Differing

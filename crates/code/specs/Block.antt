@@ -8,16 +8,17 @@
 --   block-of f        the 45 bytes f 0, .., f 44
 --   DifferOnly P b x  b and x differ only at positions of P
 --   changes b x       how many bytes differ
+--   differing b x     the positions at which they differ, lowest first; DifferAt, DifferingExactly: the same in plain words
 --   Stored labels r x x is a lawful block that begins with the record r
 --   OneMember P x     x is the one member of the set P; NoMember, TwoMembers: it has none, at least two
 use mathlib.Core.Path.{_≡_}
 use mathlib.Core.Bool.{not}
-use mathlib.Core.Logic.{_⊎_, _≢_}
+use mathlib.Core.Logic.{_⊎_, _≢_, _↔_}
 use mathlib.Core.List.{List, [], _∷_}
 use Prim.Native.Nat.{ℕ, zero, suc, _+_, _*_, _<_}
 use lib.Dec.{eqb}
 use lib.ListN.{length, getD, take, replicate}
-use Rattle.base.specs.Base.{tally}
+use Rattle.base.specs.Base.{In, Rising, tally, those}
 use Rattle.field.specs.Field.{_·_, sum}
 
 abbrev pub byte : List ℕ → ℕ → ℕ
@@ -52,6 +53,17 @@ DifferOnly P b x = (p : ℕ) → p < 45 → (byte b p ≡ byte x p) ⊎ P p
 
 unfoldable pub changes : List ℕ → List ℕ → ℕ
 changes b x = tally 45 (λ p. not (eqb (byte b p) (byte x p)))
+
+unfoldable pub differing : List ℕ → List ℕ → List ℕ
+differing b x = those 0 45 (λ p. not (eqb (byte b p) (byte x p)))
+
+pub record DifferAt (b x l : List ℕ) : Type 0 where
+  pub exactly : (p : ℕ) → In p l ↔ ((p < 45) × (byte b p ≢ byte x p))
+  pub rising : Rising l
+  pub many : length l ≡ changes b x
+
+abbrev pub DifferingExactly : Type 0
+DifferingExactly = (b x : List ℕ) → DifferAt b x (differing b x)
 
 pub record Stored (labels r x : List ℕ) : Type 0 where
   pub block : Block x

@@ -26,7 +26,7 @@ use Rattle.sums.specs.Words.{spread, gathered, at-point}
 use Rattle.sums.specs.Sums.{rows-of}
 use Rattle.sums.specs.declared.Sums.{Sums}
 use Rattle.sums.proofs.Syndrome.{reduced-sums}
-use Rattle.change.specs.Change.{applied, nonzero-at, weight}
+use Rattle.change.specs.Change.{applied, nonzero-at, weight, WellFormed}
 use Rattle.change.specs.declared.Change.{Change}
 use Rattle.reading.specs.Allowed.{ChipKind}
 use Rattle.reading.specs.Reading.{Reads}
@@ -87,6 +87,9 @@ strays-alone z j = tally-ext 9 (λ i. nonzero-at z i && true) (nonzero-at z) (λ
 within-alone : (z : List ℕ) (j : ℕ) (qs : List ℕ) → Within j qs (rows-only z j)
 within-alone z j qs = record { card = refl; first = inl refl; second = inl refl }
 
+rows-formed : (z : List ℕ) (j : ℕ) → j < 5 → WellFormed (rows-only z j)
+rows-formed z j h = record { card = h; first = inl refl; second = inl refl }
+
 -- ---- a turn: z are the rows, and n of them are not 0
 module _ (ls : List ℕ) (ok : LabelSet ls) (s : Sums) (n : ℕ) (en : n ≡ weight (rows-only (rows-of s) 0)) where
   n-is : n ≡ tally 9 (nonzero-at (rows-of s))
@@ -105,7 +108,7 @@ module _ (ls : List ℕ) (ok : LabelSet ls) (s : Sums) (n : ℕ) (en : n ≡ wei
     found-chips e l kind q d qd =
         subst (λ (x : Change). Answers ls None [] s (record { reading = Corrected kind; change = x })) (sym qd)
         (subst (λ (x : Kind). Answers ls None [] s (record { reading = Corrected x; change = rows-only (rows-of s) j })) (sym (q ∙ ap chips-kind same-n))
-        (correction ls None [] s (chips-kind (weight (rows-only (rows-of s) j))) (rows-only (rows-of s) j)
+        (correction ls None [] s (chips-kind (weight (rows-only (rows-of s) j))) (rows-only (rows-of s) j) (rows-formed (rows-of s) j hj)
         (λ b k. chips-reads ls ok [] tt b (k .block) j hj (rows-only (rows-of s) j) (within-alone (rows-of s) j []) (kept e b k)
         (omega (arith, strays-alone (rows-of s) j, n-is)))))
 
@@ -128,6 +131,6 @@ module _ (ls : List ℕ) (ok : LabelSet ls) (s : Sums) (n : ℕ) (en : n ≡ wei
     unfolding keep
     card-answers e looked d qd =
         subst (λ (x : Change). Answers ls None [] s (record { reading = Corrected (OneCard j n); change = x })) (sym qd)
-        (correction ls None [] s (OneCard j n) (rows-only (rows-of s) j)
+        (correction ls None [] s (OneCard j n) (rows-only (rows-of s) j) (rows-formed (rows-of s) j hj)
         (λ b k. subst (λ (x : ℕ). Reads ls None [] b b (in-card j x) (applied b (rows-only (rows-of s) j))) (sym same-n)
         (card-reads ls ok [] tt b (k .block) j hj (rows-only (rows-of s) j) (within-alone (rows-of s) j []) (kept e b k) (looked b k))))

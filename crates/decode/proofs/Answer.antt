@@ -3,7 +3,7 @@
 --   refusal, correction         the two ways in which an answer comes about
 --   alone-counted               how many bytes a card's rows are; known-beside: what is known of a block beside a card
 --   unlawful-decodes, lawful-decodes   the contract, from the marks' cause
-use mathlib.Core.Logic.{_≢_}
+use mathlib.Core.Logic.{_≢_, inl}
 use mathlib.Core.Path.{_≡_, refl, sym, ap, _∙_, subst}
 use mathlib.Core.List.{List}
 use Prim.Native.Nat.{ℕ}
@@ -17,7 +17,7 @@ use Rattle.marks.specs.declared.Marks.{Marks}
 use Rattle.marks.proofs.Laws.{lawful-cause}
 use Rattle.sums.specs.Sums.{rows-of}
 use Rattle.sums.specs.declared.Sums.{Sums}
-use Rattle.change.specs.Change.{applied, no-change, nonzero-at, weight}
+use Rattle.change.specs.Change.{applied, no-change, nonzero-at, weight, WellFormed}
 use Rattle.change.specs.declared.Change.{Change}
 use Rattle.change.proofs.Made.{applied-none}
 use Rattle.reading.specs.Reading.{reading-answer, Reads}
@@ -35,6 +35,9 @@ corrected Clean = refl
 corrected (Chips n) = refl
 corrected (OneCard j n) = refl
 
+none-formed : WellFormed no-change
+none-formed = record { card = omega arith; first = inl refl; second = inl refl }
+
 module _ (ls : List ℕ) (c : CardMark) (ps : List ℕ) (s : Sums) where
   pub refusal : (r : Decoded) (a : Reading) → (r .reading ≡ a) × (r .change ≡ no-change)
       → ((b : List ℕ) → Known ls b s → Reads ls c ps b b (reading-answer a) b) → Answers ls c ps s r
@@ -43,11 +46,12 @@ module _ (ls : List ℕ) (c : CardMark) (ps : List ℕ) (s : Sums) where
         subst (λ (x : Reading). Reads ls c ps b b (reading-answer x) (applied b (r .change))) (sym e)
         (subst (Reads ls c ps b b (reading-answer a)) (sym (ap (applied b) q ∙ applied-none b)) (h b known));
     unchanged = λ n. q;
+    formed = subst WellFormed (sym q) none-formed;
   }
 
-  pub correction : (k : Kind) (d : Change) → ((b : List ℕ) → Known ls b s → Reads ls c ps b b (reading-answer (Corrected k)) (applied b d))
+  pub correction : (k : Kind) (d : Change) → WellFormed d → ((b : List ℕ) → Known ls b s → Reads ls c ps b b (reading-answer (Corrected k)) (applied b d))
       → Answers ls c ps s (record { reading = Corrected k; change = d })
-  correction k d h = record { reads = h; unchanged = λ n. absurd (n (corrected k)) }
+  correction k d w h = record { reads = h; unchanged = λ n. absurd (n (corrected k)); formed = w }
 
 -- ---- as the code goes
 pub alone-counted : (z : List ℕ) (j : ℕ) → weight (rows-only z j) ≡ tally 9 (nonzero-at z)
@@ -64,6 +68,7 @@ module _ (s : Sums) (m : Marks) (r : Decoded) where
     reads = λ lawful b bb h. absurd (n (q ∙ lawful-cause m lawful));
     unlawful = λ z. ap reading-answer e ∙ ap refused q;
     unchanged = λ z. d;
+    formed = subst WellFormed (sym d) none-formed;
   }
 
   pub lawful-decodes : marks-cause m ≡ 0 → (ls : List ℕ) → ls ≡ built-in → (c : CardMark) → m .card ≡ c → (ps : List ℕ) → ps ≡ marked-chips m
@@ -75,4 +80,5 @@ module _ (s : Sums) (m : Marks) (r : Decoded) where
         (subst (λ (x : List ℕ). Answers x c ps s r) e a .reads b (record { block = bb; sums = h })));
     unlawful = λ n. absurd (n z);
     unchanged = a .unchanged;
+    formed = a .formed;
   }

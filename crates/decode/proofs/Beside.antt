@@ -103,6 +103,7 @@ module _ (ls : List ℕ) (ok : LabelSet ls) (ps : List ℕ) (few : Few rules ps)
   found-answers f hf d v kind q =
       subst (λ (x : Kind). Answers ls (Card j) ps s (record { reading = Corrected x; change = d })) (sym q)
       (correction ls (Card j) ps s (card-kind j (tally 9 (nonzero-at (d .rows))) (weight d)) d
+      (formed d j hj (keep j (beside-chips ps f)) (v .within) (off-at f hf))
       (λ b k. found-reads ls ok ps few b j hj (k .block) f hf d (v .within) (v .reached b (known-beside ls b ok s k j t₁ t₂ at))))
 
 pub beside-marked : (n p q f : ℕ) → n ≢ 0 → beside-chips (chips-of n p q) f ≡ chips-of n p q

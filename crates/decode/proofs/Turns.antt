@@ -34,6 +34,7 @@ use Rattle.reading.specs.declared.Reading.the-variants.{Corrected}
 use Rattle.decode.specs.Equations.{fits-by, Solves}
 use Rattle.decode.specs.Search.{Known, SumsAt, strays, chips-kind, Looked}
 use Rattle.decode.specs.Decode.{Answers}
+use Rattle.decode.proofs.Kind.{formed}
 use Rattle.decode.proofs.Describe.{unsolved}
 use Rattle.decode.proofs.Answer.{correction, known-beside}
 use Rattle.decode.proofs.Alone.{sums-at}
@@ -75,7 +76,7 @@ module _ (ls : List ℕ) (ok : LabelSet ls) (ps : List ℕ) (few : Few rules ps)
         → Answers ls None ps s (record { reading = Corrected kind; change = d })
     found-chips h n en kind q =
         subst (λ (x : Kind). Answers ls None ps s (record { reading = Corrected x; change = d })) (sym (q ∙ ap chips-kind en))
-        (correction ls None ps s (chips-kind (weight d)) d
+        (correction ls None ps s (chips-kind (weight d)) d (formed d j hj (keep j ps) (v .within) off)
         (λ b k. chips-reads ls ok ps few b (k .block) j hj d (v .within) (reach b k) h))
 
     pub found-card : further (length ps) < strays d ps → (b : List ℕ) → Known ls b s → (card : ℕ) → Looked ls ps b j 0 card → Looked ls ps b (j + 1) 1 j
@@ -89,6 +90,6 @@ module _ (ls : List ℕ) (ok : LabelSet ls) (ps : List ℕ) (few : Few rules ps)
     pub card-answers : (n : ℕ) → n ≡ weight d → ((b : List ℕ) → Known ls b s → Looked ls ps b 5 1 j)
         → Answers ls None ps s (record { reading = Corrected (OneCard j n); change = d })
     card-answers n en looked =
-        correction ls None ps s (OneCard j n) d
+        correction ls None ps s (OneCard j n) d (formed d j hj (keep j ps) (v .within) off)
         (λ b k. subst (λ (x : ℕ). Reads ls None ps b b (in-card j x) (applied b d)) (sym en)
         (card-reads ls ok ps few b (k .block) j hj d (v .within) (reach b k) (looked b k)))

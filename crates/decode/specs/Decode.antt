@@ -14,7 +14,7 @@ use Rattle.marks.specs.declared.Marks.{Marks}
 use Rattle.code.specs.Labels.{built-in}
 use Rattle.sums.specs.Sums.{IsSums}
 use Rattle.sums.specs.declared.Sums.{Sums}
-use Rattle.change.specs.Change.{applied, no-change}
+use Rattle.change.specs.Change.{applied, no-change, WellFormed}
 use Rattle.reading.specs.Reading.{reading-answer, Reads, ReadsUnder}
 use Rattle.decode.specs.Search.{Known}
 use Rattle.decode.specs.declared.Decoded.{Decoded}
@@ -23,8 +23,11 @@ pub record Answers (labels : List ℕ) (c : CardMark) (ps : List ℕ) (s : Sums)
   pub reads : (b : List ℕ) → Known labels b s → Reads labels c ps b b (reading-answer (r .reading)) (applied b (r .change))
   -- a refusal changes nothing
   pub unchanged : number (reading-answer (r .reading)) ≢ 0 → r .change ≡ no-change
+  -- the change has each of its places once, so that they can be counted and listed
+  pub formed : WellFormed (r .change)
 
 pub record Decodes (s : Sums) (m : Marks) (r : Decoded) : Type 0 where
   pub reads : LawfulMarks m → (b : List ℕ) → Block b → IsSums built-in b s → ReadsUnder m b b (reading-answer (r .reading)) (applied b (r .change))
   pub unlawful : marks-cause m ≢ 0 → reading-answer (r .reading) ≡ refused (marks-cause m)
   pub unchanged : number (reading-answer (r .reading)) ≢ 0 → r .change ≡ no-change
+  pub formed : WellFormed (r .change)

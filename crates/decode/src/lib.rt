@@ -12,7 +12,7 @@ ghost use Rattle.marks.specs.Marks.{marked-chips, LawfulMarks};
 ghost use Rattle.marks.specs.declared.CardMark.the-variants.{None, Card};
 ghost use Rattle.sums.specs.Sums.{rows-of};
 ghost use Rattle.sums.specs.declared.Sums.{Sums};
-ghost use Rattle.change.specs.Change.{applied, nonzero-at, no-change, weight};
+ghost use Rattle.change.specs.Change.{applied, nonzero-at, no-change, weight, Listed};
 ghost use Rattle.decode.specs.Search.{SumsAt, Alone, chips-kind, card-kind};
 ghost use Rattle.decode.specs.Decode.{Answers, Decodes};
 
@@ -20,7 +20,7 @@ mod chips;
 mod equations;
 
 // A reading, and the change that it stands for: none on a refusal. Several changes can lead to one block, and which of them it is stays
-// in this crate: what can be seen of it is what it makes of a block.
+// in this crate: what can be seen of it is what it makes of a block, and which positions it changes.
 pub struct Decoded {
     pub reading: reading::Reading,
     change: change::Change,
@@ -31,6 +31,13 @@ pub fn apply(d: Decoded, block: &mut [u8])
     ensures { λ _. ⌜ now (block .exit) ≡ applied (now (block .entry)) (d .change) ⌝ }
 {
     change::apply(block, d.change);
+}
+
+// The positions that it changes, lowest first.
+pub fn changed(d: Decoded) -> change::Positions
+    ensures { λ r. ⌜ Listed (d .change) r ⌝ }
+{
+    change::changed(d.change)
 }
 
 // A refusal changes nothing.

@@ -2,17 +2,19 @@
 --
 --   mark-numbers   the numbers of its refusals: 8 is of placing, and 9 of lifting
 --   mark-gives     it is done, or refused with one of them
+--   marks-number   an unlawful record is refused with 6 or 7
 use Prim.Native.Nat.{ℕ}
-use mathlib.Core.Logic.{inl, inr}
-use mathlib.Core.Path.{sym, subst}
-use mathlib.Core.Bool.{Bool, false, false≢true}
+use mathlib.Core.Logic.{_≢_, _⊎_, inl, inr}
+use mathlib.Core.Path.{_≡_, refl, sym, subst}
+use mathlib.Core.Bool.{Bool, true, false, not, false≢true}
 use mathlib.Core.List.{List, [], _∷_}
 use native.Mathlib.Omega.{arith}
 use Rattle.base.specs.Base.{In}
 use Rattle.answer.specs.Answer.{Answer}
-use Rattle.answer.specs.Cause.{cause}
+use Rattle.answer.specs.Cause.{cause, lowest}
 use Rattle.answer.proofs.Causes.{Holds}
 use Rattle.answer.proofs.Gives.{Outcomes, was-done, was-refused, by-holds}
+use Rattle.marks.specs.Marks.{in-range, two-equal, marks-cause}
 use Rattle.marks.specs.Mark.{mark-cause, MarkDone}
 use Rattle.marks.specs.declared.Marks.{Marks}
 use Rattle.marks.specs.declared.MarkCall.{MarkCall}
@@ -50,3 +52,13 @@ unfolding MarkDone mark-cause
 mark-gives m call a m′ w =
     by-holds (mark-causes m call) (omega arith, (omega arith, (omega arith, (omega arith, tt)))) (Outcomes (mark-numbers call)) a _ _
     (λ n h. was-refused (mark-holds m call n h)) (λ z d. subst (Outcomes (mark-numbers call)) (sym (d .0)) was-done) w
+
+pub marks-number : (m : Marks) → marks-cause m ≢ 0 → (marks-cause m ≡ 6) ⊎ (marks-cause m ≡ 7)
+unfolding marks-cause
+marks-number m = by (not (in-range m)) (two-equal m)
+  where
+    by : (t u : Bool) → lowest (cause 6 t ∷ cause 7 u ∷ []) ≢ 0 → (lowest (cause 6 t ∷ cause 7 u ∷ []) ≡ 6) ⊎ (lowest (cause 6 t ∷ cause 7 u ∷ []) ≡ 7)
+    by true true n = inl refl
+    by true false n = inl refl
+    by false true n = inr refl
+    by false false n = absurd (n refl)

@@ -5,9 +5,9 @@
 --   get-fits, patrol-fits, mark-fits   of each library call
 --   runs-come, answers-back            of every command
 --   Eleven                a card comes with 11 alone; reads-eleven, by-eleven, runs-eleven: so it does
---   refused-keeps         a refused command leaves marks, bank and output as they were
+--   refused-keeps         a refused command leaves marks, bank, output and window as they were
 use Prim.Native.Nat.{ℕ, zero, suc, _+_, _-_, _*_, _/_, _%_, _≤_}
-use mathlib.Core.Path.{_≡_, refl, sym, ap, subst}
+use mathlib.Core.Path.{_≡_, refl, sym, ap, _∙_, subst}
 use mathlib.Core.Logic.{_≢_}
 use mathlib.Core.Bool.{true, false}
 use mathlib.Core.List.{List, [], _∷_}
@@ -26,6 +26,7 @@ use Rattle.marks.specs.declared.MarkCall.the-variants.{PlaceChip, LiftChip, Pla
 use Rattle.marks.proofs.Gives.{mark-numbers, mark-gives}
 use Rattle.marks.proofs.Laws.{mark-done, mark-refused}
 use Rattle.reading.specs.Reading.{ReadsUnder}
+use Rattle.block.proofs.Decided.{unread-window}
 use Rattle.bank.specs.Calls.{block, get-cause, patrol-cause, GetDone, PatrolDone}
 use Rattle.bank.proofs.Gives.{get-gives, patrol-gives}
 use Rattle.bank.proofs.Done.{patrol-unread}
@@ -40,12 +41,12 @@ pub unknown : (r : Registers) (v : ℕ) → v ≢ 1 → v ≢ 2 → v ≢ 3 → 
 unfolding command-of
 unknown r v a b c d e f = simp (ne-eqb v 1 a, ne-eqb v 2 b, ne-eqb v 3 c, ne-eqb v 4 d, ne-eqb v 5 e, ne-eqb v 6 f)
 
-pub known : (m : Marks) (c : Command) (bank out : List ℕ) (a : Answer) (m′ : Marks) (bank′ out′ : List ℕ) → Runs m c bank out a m′ bank′ out′
+pub known : (m : Marks) (c : Command) (bank out win : List ℕ) (a : Answer) (m′ : Marks) (bank′ out′ win′ : List ℕ) → Runs m c bank out win a m′ bank′ out′ win′
     → is-unknown c ≡ false
-known m (Get k) bank out a m′ bank′ out′ w = refl
-known m (Patrol k) bank out a m′ bank′ out′ w = refl
-known m (Mark c) bank out a m′ bank′ out′ w = refl
-known m Unknown bank out a m′ bank′ out′ w = absurd w
+known m (Get k) bank out win a m′ bank′ out′ win′ w = refl
+known m (Patrol k) bank out win a m′ bank′ out′ win′ w = refl
+known m (Mark c) bank out win a m′ bank′ out′ win′ w = refl
+known m Unknown bank out win a m′ bank′ out′ win′ w = absurd w
 
 -- ---- an answer and its bytes, of a call that refuses with the numbers ns
 pub record Comes (a : Answer) : Type 0 where
@@ -110,24 +111,26 @@ mark-comes (LiftChip p) a w = outcome-comes (6 ∷ 7 ∷ 9 ∷ []) refl a w
 mark-comes (PlaceCard j) a w = outcome-comes (6 ∷ 7 ∷ 8 ∷ []) refl a w
 mark-comes LiftCard a w = outcome-comes (6 ∷ 7 ∷ 9 ∷ []) refl a w
 
-pub runs-come : (m : Marks) (c : Command) (bank out : List ℕ) (a : Answer) (m′ : Marks) (bank′ out′ : List ℕ) → Runs m c bank out a m′ bank′ out′ → Comes a
-runs-come m (Get k) bank out a m′ bank′ out′ w =
-    reading-comes (2 ∷ 4 ∷ 5 ∷ 6 ∷ 7 ∷ 10 ∷ []) refl a (get-gives bank k m out a bank′ out′ (w .0))
-runs-come m (Patrol k) bank out a m′ bank′ out′ w = reading-comes (4 ∷ 5 ∷ 6 ∷ 7 ∷ 10 ∷ []) refl a (patrol-gives bank k m a bank′ (w .0))
-runs-come m (Mark c) bank out a m′ bank′ out′ w = mark-comes c a (mark-gives m c a m′ (w .0))
-runs-come m Unknown bank out a m′ bank′ out′ w = absurd w
+pub runs-come : (m : Marks) (c : Command) (bank out win : List ℕ) (a : Answer) (m′ : Marks) (bank′ out′ win′ : List ℕ)
+    → Runs m c bank out win a m′ bank′ out′ win′ → Comes a
+runs-come m (Get k) bank out win a m′ bank′ out′ win′ w =
+    reading-comes (2 ∷ 4 ∷ 5 ∷ 6 ∷ 7 ∷ 10 ∷ []) refl a (get-gives bank k m out win a bank′ out′ win′ (w .0))
+runs-come m (Patrol k) bank out win a m′ bank′ out′ win′ w = reading-comes (4 ∷ 5 ∷ 6 ∷ 7 ∷ 10 ∷ []) refl a (patrol-gives bank k m win a bank′ win′ (w .0))
+runs-come m (Mark c) bank out win a m′ bank′ out′ win′ w = mark-comes c a (mark-gives m c a m′ (w .0))
+runs-come m Unknown bank out win a m′ bank′ out′ win′ w = absurd w
 
-pub get-fits : (bank : List ℕ) (k : ℕ) (m : Marks) (out : List ℕ) (a : Answer) (bank′ out′ : List ℕ) → GetDone bank k m out a bank′ out′ → ToldFits a
-get-fits bank k m out a bank′ out′ w = runs-come m (Get k) bank out a m bank′ out′ (w, refl) .fit
+pub get-fits : (bank : List ℕ) (k : ℕ) (m : Marks) (out win : List ℕ) (a : Answer) (bank′ out′ win′ : List ℕ) → GetDone bank k m out win a bank′ out′ win′
+    → ToldFits a
+get-fits bank k m out win a bank′ out′ win′ w = runs-come m (Get k) bank out win a m bank′ out′ win′ (w, refl) .fit
 
-pub patrol-fits : (bank : List ℕ) (k : ℕ) (m : Marks) (a : Answer) (bank′ : List ℕ) → PatrolDone bank k m a bank′ → ToldFits a
-patrol-fits bank k m a bank′ w = runs-come m (Patrol k) bank [] a m bank′ [] (w, refl, refl) .fit
+pub patrol-fits : (bank : List ℕ) (k : ℕ) (m : Marks) (win : List ℕ) (a : Answer) (bank′ win′ : List ℕ) → PatrolDone bank k m win a bank′ win′ → ToldFits a
+patrol-fits bank k m win a bank′ win′ w = runs-come m (Patrol k) bank [] win a m bank′ [] win′ (w, refl, refl) .fit
 
 pub mark-fits : (m : Marks) (c : MarkCall) (a : Answer) (m′ : Marks) → MarkDone m c a m′ → ToldFits a
-mark-fits m c a m′ w = runs-come m (Mark c) [] [] a m′ [] [] (w, refl, refl) .fit
+mark-fits m c a m′ w = runs-come m (Mark c) [] [] [] a m′ [] [] [] (w, refl, refl, refl) .fit
 
 pub answers-back : AnswersBack
-answers-back m c bank out a m′ bank′ out′ w = runs-come m c bank out a m′ bank′ out′ w .back
+answers-back m c bank out win a m′ bank′ out′ win′ w = runs-come m c bank out win a m′ bank′ out′ win′ w .back
 
 -- ---- a card comes with 11 alone
 abbrev pub Eleven : Answer → Type 0
@@ -152,14 +155,15 @@ pub by-eleven : (n : ℕ) (a : Answer) (U D : Type 0) → (D → Eleven a) → B
 by-eleven zero a U D f d = f d
 by-eleven (suc n) a U D f (e, u) = subst Eleven (sym e) tt
 
-pub runs-eleven : (m : Marks) (c : Command) (bank out : List ℕ) (a : Answer) (m′ : Marks) (bank′ out′ : List ℕ) → Runs m c bank out a m′ bank′ out′ → Eleven a
-unfolding PatrolDone MarkDone
-runs-eleven m (Get k) bank out a m′ bank′ out′ (w, e) =
+pub runs-eleven : (m : Marks) (c : Command) (bank out win : List ℕ) (a : Answer) (m′ : Marks) (bank′ out′ win′ : List ℕ)
+    → Runs m c bank out win a m′ bank′ out′ win′ → Eleven a
+unfolding MarkDone
+runs-eleven m (Get k) bank out win a m′ bank′ out′ win′ (w, e) =
     by-eleven (get-cause (length bank) k m (length out)) a _ _ (reads-eleven m (block bank k) out a out′) (w .output)
-runs-eleven m (Patrol k) bank out a m′ bank′ out′ (w, e, o) =
-    by-eleven (patrol-cause (length bank) k m) a _ _ (λ d. reads-eleven m (block bank k) (block bank k) a (d .0) (d .1)) w
-runs-eleven m (Mark c) bank out a m′ bank′ out′ (w, e, o) = by-eleven (mark-cause m c) a _ _ (λ d. subst Eleven (sym (d .0)) tt) w
-runs-eleven m Unknown bank out a m′ bank′ out′ w = absurd w
+runs-eleven m (Patrol k) bank out win a m′ bank′ out′ win′ (w, e, o) =
+    by-eleven (patrol-cause (length bank) k m) a _ _ (λ d. reads-eleven m (block bank k) (block bank k) a (d .0) (d .1)) (w .mended)
+runs-eleven m (Mark c) bank out win a m′ bank′ out′ win′ (w, e, o, q) = by-eleven (mark-cause m c) a _ _ (λ d. subst Eleven (sym (d .0)) tt) w
+runs-eleven m Unknown bank out win a m′ bank′ out′ win′ w = absurd w
 
 -- ---- a refused command
 unread : (m : Marks) (b out : List ℕ) (a : Answer) (x : List ℕ) → number a ≢ 0 → ReadsUnder m b out a x → x ≡ out
@@ -171,9 +175,9 @@ unread m b out (refused-card i j) x n h = h .3
 unread m b out done x n h = absurd h
 unread m b out (counted v w y z o) x n h = absurd h
 
-get-unread : (bank : List ℕ) (k : ℕ) (m : Marks) (out : List ℕ) (a : Answer) (bank′ out′ : List ℕ) → GetDone bank k m out a bank′ out′ → number a ≢ 0
-    → out′ ≡ out
-get-unread bank k m out a bank′ out′ w n = go (get-cause (length bank) k m (length out)) (w .output)
+get-unread : (bank : List ℕ) (k : ℕ) (m : Marks) (out win : List ℕ) (a : Answer) (bank′ out′ win′ : List ℕ) → GetDone bank k m out win a bank′ out′ win′
+    → number a ≢ 0 → out′ ≡ out
+get-unread bank k m out win a bank′ out′ win′ w n = go (get-cause (length bank) k m (length out)) (w .output)
   where
     go : (c : ℕ) → By c a (out′ ≡ out) (ReadsUnder m (block bank k) out a out′) → out′ ≡ out
     go zero d = unread m (block bank k) out a out′ n d
@@ -187,7 +191,9 @@ mark-kept m c a m′ w n = go (mark-cause m c) refl
     go (suc i) e = mark-refused m c a m′ i e w .1
 
 pub refused-keeps : RefusedKeeps
-refused-keeps m (Get k) bank out a m′ bank′ out′ (w, e) n = (e, w .kept, get-unread bank k m out a bank′ out′ w n)
-refused-keeps m (Patrol k) bank out a m′ bank′ out′ (w, e, o) n = (e, patrol-unread bank k m a bank′ w n, o)
-refused-keeps m (Mark c) bank out a m′ bank′ out′ (w, b, o) n = (mark-kept m c a m′ w n, b, o)
-refused-keeps m Unknown bank out a m′ bank′ out′ w n = absurd w
+refused-keeps m (Get k) bank out win a m′ bank′ out′ win′ (w, e) n =
+    (e, w .kept, get-unread bank k m out win a bank′ out′ win′ w n, w .window ∙ unread-window a win (block bank k) out′ n)
+refused-keeps m (Patrol k) bank out win a m′ bank′ out′ win′ (w, e, o) n =
+    (e, patrol-unread bank k m win a bank′ win′ w n, o, w .window ∙ unread-window a win (block bank k) (block bank′ k) n)
+refused-keeps m (Mark c) bank out win a m′ bank′ out′ win′ (w, b, o, q) n = (mark-kept m c a m′ w n, b, o, q)
+refused-keeps m Unknown bank out win a m′ bank′ out′ win′ w n = absurd w

@@ -1,4 +1,4 @@
--- What a write does is decided: two outcomes on the same registers, bank and output agree in every byte, but for the card with 11.
+-- What a write does is decided: two outcomes on the same registers, bank, output and window agree in every byte, but for the card with 11.
 --
 --   ran-agree       two answers that agree but for that card are told alike, but for it
 --   runs-decided    two outcomes of a command
@@ -75,24 +75,25 @@ ran-agree r s same v a a′ h h′ e m m′ q =
     ) refl
 
 -- ---- two outcomes of a command
-pub record Same (a a′ : Answer) (m m′ : Marks) (x x′ y y′ : List ℕ) : Type 0 where
+pub record Same (a a′ : Answer) (m m′ : Marks) (x x′ y y′ z z′ : List ℕ) : Type 0 where
   pub answer : but-card a ≡ but-card a′
   pub marks : m ≡ m′
   pub bank : x ≡ x′
   pub output : y ≡ y′
+  pub window : z ≡ z′
 
-pub runs-decided : (m : Marks) (c : Command) (bank out : List ℕ) (a a′ : Answer) (m′ m″ : Marks) (bank′ bank″ out′ out″ : List ℕ)
-    → Runs m c bank out a m′ bank′ out′ → Runs m c bank out a′ m″ bank″ out″ → Same a a′ m′ m″ bank′ bank″ out′ out″
-runs-decided m (Get k) bank out a a′ m′ m″ bank′ bank″ out′ out″ (w, e) (v, f) =
-    let d = get-decided bank a a′ bank′ bank″ k m out out′ out″ w v in
-    record { answer = d .0 .0; marks = e ∙ sym f; bank = d .1; output = d .0 .1 }
-runs-decided m (Patrol k) bank out a a′ m′ m″ bank′ bank″ out′ out″ (w, e, o) (v, f, p) =
-    let d = patrol-decided bank a a′ bank′ bank″ k m w v in
-    record { answer = d .0; marks = e ∙ sym f; bank = d .1; output = o ∙ sym p }
-runs-decided m (Mark c) bank out a a′ m′ m″ bank′ bank″ out′ out″ (w, b, o) (v, d, p) =
+pub runs-decided : (m : Marks) (c : Command) (bank out win : List ℕ) (a a′ : Answer) (m′ m″ : Marks) (bank′ bank″ out′ out″ win′ win″ : List ℕ)
+    → Runs m c bank out win a m′ bank′ out′ win′ → Runs m c bank out win a′ m″ bank″ out″ win″ → Same a a′ m′ m″ bank′ bank″ out′ out″ win′ win″
+runs-decided m (Get k) bank out win a a′ m′ m″ bank′ bank″ out′ out″ win′ win″ (w, e) (v, f) =
+    let d = get-decided bank a a′ bank′ bank″ k m out win out′ out″ win′ win″ w v in
+    record { answer = d .0 .0; marks = e ∙ sym f; bank = d .1; output = d .0 .1; window = d .2 }
+runs-decided m (Patrol k) bank out win a a′ m′ m″ bank′ bank″ out′ out″ win′ win″ (w, e, o) (v, f, p) =
+    let d = patrol-decided bank a a′ bank′ bank″ k m win win′ win″ w v in
+    record { answer = d .0 .0; marks = e ∙ sym f; bank = d .0 .1; output = o ∙ sym p; window = d .1 }
+runs-decided m (Mark c) bank out win a a′ m′ m″ bank′ bank″ out′ out″ win′ win″ (w, b, o, i) (v, d, p, j) =
     let e = mark-decided m c a a′ m′ m″ w v in
-    record { answer = e .0; marks = e .1; bank = b ∙ sym d; output = o ∙ sym p }
-runs-decided m Unknown bank out a a′ m′ m″ bank′ bank″ out′ out″ w v = absurd w
+    record { answer = e .0; marks = e .1; bank = b ∙ sym d; output = o ∙ sym p; window = i ∙ sym j }
+runs-decided m Unknown bank out win a a′ m′ m″ bank′ bank″ out′ out″ win′ win″ w v = absurd w
 
 -- the card with 11 is all that is left out: while byte 4 is another, nothing is
 pub but-card-only : (r : Registers) → register r 4 ≢ 27 → but-card-registers r ≡ r
@@ -103,22 +104,23 @@ but-card-only r n =
 
 pub write-decided : WriteDecided
 unfolding WriteDone
-write-decided r a v bank out x x′ r′ r″ bank′ bank″ out′ out″ w u = by (write-cause r a v) w u
+write-decided r a v bank out win x x′ r′ r″ bank′ bank″ out′ out″ win′ win″ w u = by (write-cause r a v) w u
   where
-    writes : (a : ℕ) → Writes r a v bank out r′ bank′ out′ → Writes r a v bank out r″ bank″ out″
-        → (but-card-registers r′ ≡ but-card-registers r″) × (bank′ ≡ bank″) × (out′ ≡ out″)
+    writes : (a : ℕ) → Writes r a v bank out win r′ bank′ out′ win′ → Writes r a v bank out win r″ bank″ out″ win″
+        → (but-card-registers r′ ≡ but-card-registers r″) × (bank′ ≡ bank″) × (out′ ≡ out″) × (win′ ≡ win″)
     writes zero (b, m, d, e) (c, n, f, g) =
-        let s = runs-decided (r .marks) (command-of r v) bank out b c m n bank′ bank″ out′ out″ d f in (
+        let s = runs-decided (r .marks) (command-of r v) bank out win b c m n bank′ bank″ out′ out″ win′ win″ d f in (
           ap but-card-registers e
-              ∙ ran-agree r r (λ i z. refl) v b c (runs-eleven (r .marks) (command-of r v) bank out b m bank′ out′ d)
-              (runs-eleven (r .marks) (command-of r v) bank out c n bank″ out″ f) (s .answer) m n (s .marks) ∙ sym (ap but-card-registers g),
+              ∙ ran-agree r r (λ i z. refl) v b c (runs-eleven (r .marks) (command-of r v) bank out win b m bank′ out′ win′ d)
+              (runs-eleven (r .marks) (command-of r v) bank out win c n bank″ out″ win″ f) (s .answer) m n (s .marks) ∙ sym (ap but-card-registers g),
           s .bank,
           s .output,
+          s .window,
         )
-    writes (suc a) (e, b, o) (f, d, p) = (ap but-card-registers (e ∙ sym f), b ∙ sym d, o ∙ sym p)
+    writes (suc a) (e, b, o, i) (f, d, p, j) = (ap but-card-registers (e ∙ sym f), b ∙ sym d, o ∙ sym p, i ∙ sym j)
 
-    by : (n : ℕ) → By n x ((r′ ≡ r) × (bank′ ≡ bank) × (out′ ≡ out)) ((x ≡ done) × Writes r a v bank out r′ bank′ out′)
-        → By n x′ ((r″ ≡ r) × (bank″ ≡ bank) × (out″ ≡ out)) ((x′ ≡ done) × Writes r a v bank out r″ bank″ out″)
-        → (x ≡ x′) × (but-card-registers r′ ≡ but-card-registers r″) × (bank′ ≡ bank″) × (out′ ≡ out″)
-    by zero (e, d) (f, g) = let s = writes a d g in (e ∙ sym f, s .0, s .1, s .2)
-    by (suc n) (e, (p, b, o)) (f, (q, c, i)) = (e ∙ sym f, ap but-card-registers (p ∙ sym q), b ∙ sym c, o ∙ sym i)
+    by : (n : ℕ) → By n x ((r′ ≡ r) × (bank′ ≡ bank) × (out′ ≡ out) × (win′ ≡ win)) ((x ≡ done) × Writes r a v bank out win r′ bank′ out′ win′)
+        → By n x′ ((r″ ≡ r) × (bank″ ≡ bank) × (out″ ≡ out) × (win″ ≡ win)) ((x′ ≡ done) × Writes r a v bank out win r″ bank″ out″ win″)
+        → (x ≡ x′) × (but-card-registers r′ ≡ but-card-registers r″) × (bank′ ≡ bank″) × (out′ ≡ out″) × (win′ ≡ win″)
+    by zero (e, d) (f, g) = let s = writes a d g in (e ∙ sym f, s .0, s .1, s .2, s .3)
+    by (suc n) (e, (p, b, o, i)) (f, (q, c, g, j)) = (e ∙ sym f, ap but-card-registers (p ∙ sym q), b ∙ sym c, o ∙ sym g, i ∙ sym j)

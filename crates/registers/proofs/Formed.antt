@@ -51,29 +51,30 @@ mark-formed m c a m′ h w = go (mark-cause m c) refl
     go zero e = subst (λ (x : Marks). marks-in (bytes x) ≡ x) (sym (mark-done m c a m′ e w .1)) (marks-in-bytes _ (marked-lawful m c e))
     go (suc n) e = subst (λ (x : Marks). marks-in (bytes x) ≡ x) (sym (mark-refused m c a m′ n e w .1)) h
 
-runs-formed : (m : Marks) (c : Command) (bank out : List ℕ) (a : Answer) (m′ : Marks) (bank′ out′ : List ℕ) → marks-in (bytes m) ≡ m
-    → Runs m c bank out a m′ bank′ out′ → marks-in (bytes m′) ≡ m′
-runs-formed m (Get k) bank out a m′ bank′ out′ h (w, e) = rw e h
-runs-formed m (Patrol k) bank out a m′ bank′ out′ h (w, e, o) = rw e h
-runs-formed m (Mark c) bank out a m′ bank′ out′ h (w, e, o) = mark-formed m c a m′ h w
-runs-formed m Unknown bank out a m′ bank′ out′ h w = absurd w
+runs-formed : (m : Marks) (c : Command) (bank out win : List ℕ) (a : Answer) (m′ : Marks) (bank′ out′ win′ : List ℕ) → marks-in (bytes m) ≡ m
+    → Runs m c bank out win a m′ bank′ out′ win′ → marks-in (bytes m′) ≡ m′
+runs-formed m (Get k) bank out win a m′ bank′ out′ win′ h (w, e) = rw e h
+runs-formed m (Patrol k) bank out win a m′ bank′ out′ win′ h (w, e, o) = rw e h
+runs-formed m (Mark c) bank out win a m′ bank′ out′ win′ h (w, e, o, q) = mark-formed m c a m′ h w
+runs-formed m Unknown bank out win a m′ bank′ out′ win′ h w = absurd w
 
-pub write-formed : (r : Registers) (a v : ℕ) (bank out : List ℕ) (x : Answer) (r′ : Registers) (bank′ out′ : List ℕ) → Formed r
-    → WriteDone r a v bank out x r′ bank′ out′ → Formed r′
+pub write-formed : (r : Registers) (a v : ℕ) (bank out win : List ℕ) (x : Answer) (r′ : Registers) (bank′ out′ win′ : List ℕ) → Formed r
+    → WriteDone r a v bank out win x r′ bank′ out′ win′ → Formed r′
 unfolding WriteDone
-write-formed r a v bank out x r′ bank′ out′ h w = by (write-cause r a v) w
+write-formed r a v bank out win x r′ bank′ out′ win′ h w = by (write-cause r a v) w
   where
-    writes : (a : ℕ) → Writes r a v bank out r′ bank′ out′ → Formed r′
-    writes zero (b, m, d, e) = rw e (record { long = refl; marks = runs-formed (r .marks) (command-of r v) bank out b m bank′ out′ (h .marks) d })
-    writes (suc a) (e, d, o) = rw e (record { long = length-set (r .front) (suc a) _ ∙ h .long; marks = h .marks })
+    writes : (a : ℕ) → Writes r a v bank out win r′ bank′ out′ win′ → Formed r′
+    writes zero (b, m, d, e) = rw e (record { long = refl; marks = runs-formed (r .marks) (command-of r v) bank out win b m bank′ out′ win′ (h .marks) d })
+    writes (suc a) (e, d, o, q) = rw e (record { long = length-set (r .front) (suc a) _ ∙ h .long; marks = h .marks })
 
-    by : (n : ℕ) → By n x ((r′ ≡ r) × (bank′ ≡ bank) × (out′ ≡ out)) ((x ≡ done) × Writes r a v bank out r′ bank′ out′) → Formed r′
+    by : (n : ℕ) → By n x ((r′ ≡ r) × (bank′ ≡ bank) × (out′ ≡ out) × (win′ ≡ win)) ((x ≡ done) × Writes r a v bank out win r′ bank′ out′ win′) → Formed r′
     by zero (e, d) = writes a d
-    by (suc n) (e, (d, p, o)) = rw d h
+    by (suc n) (e, (d, p, o, q)) = rw d h
 
-pub write-gives : (r : Registers) (a v : ℕ) (bank out : List ℕ) (x : Answer) (r′ : Registers) (bank′ out′ : List ℕ) → WriteDone r a v bank out x r′ bank′ out′
+pub write-gives : (r : Registers) (a v : ℕ) (bank out win : List ℕ) (x : Answer) (r′ : Registers) (bank′ out′ win′ : List ℕ)
+    → WriteDone r a v bank out win x r′ bank′ out′ win′
     → Outcomes (12 ∷ 13 ∷ 14 ∷ []) x
 unfolding WriteDone write-cause
-write-gives r a v bank out x r′ bank′ out′ w =
+write-gives r a v bank out win x r′ bank′ out′ win′ w =
     done-gives (cause 12 (ltb 11 a) ∷ cause 13 (read-only a) ∷ cause 14 (eqb a 0 && is-unknown (command-of r v)) ∷ [])
     (omega arith, (omega arith, (omega arith, tt))) x _ _ w

@@ -45,30 +45,32 @@ two-bit (suc (suc i)) = ap (λ (n : ℕ). eqb (n % 2) 1) (div-eq-of-lt (below i)
 
 pub commands-leave : CommandsLeave
 unfolding WriteDone
-commands-leave r v bank out x r′ bank′ out′ z w =
+commands-leave r v bank out win x r′ bank′ out′ win′ z w =
     let d = by-accepted (write-cause r 0 v) x _ _ z w .1 in
-    ran-leaves r v bank out (d .0) (d .1) bank′ out′ (d .2) r′ (d .3)
+    ran-leaves r v bank out win (d .0) (d .1) bank′ out′ win′ (d .2) r′ (d .3)
   where
-    ran-leaves : (r : Registers) (v : ℕ) (bank out : List ℕ) (a : Answer) (m : Marks) (bank′ out′ : List ℕ)
-        → Runs (r .marks) (command-of r v) bank out a m bank′ out′ → (r′ : Registers) → r′ ≡ ran r v a m → CommandLeaves r v bank out r′ bank′ out′
-    ran-leaves r v bank out a m bank′ out′ d r′ e = rw e (record {
-      call = subst (λ (b : Answer). Runs (r .marks) (command-of r v) bank out b m bank′ out′) (sym (h .back)) d;
+    ran-leaves : (r : Registers) (v : ℕ) (bank out win : List ℕ) (a : Answer) (m : Marks) (bank′ out′ win′ : List ℕ)
+        → Runs (r .marks) (command-of r v) bank out win a m bank′ out′ win′
+        → (r′ : Registers) → r′ ≡ ran r v a m → CommandLeaves r v bank out win r′ bank′ out′ win′
+    ran-leaves r v bank out win a m bank′ out′ win′ d r′ e = rw e (record {
+      call = subst (λ (b : Answer). Runs (r .marks) (command-of r v) bank out win b m bank′ out′ win′) (sym (h .back)) d;
       command = refl;
       others = kept;
       done = λ n i. with-at i (register r 7) (pending-bit a) ∙ ap (λ (t : Bool). is-set i (register r 7) || t) (first i (number-is n));
       refused = λ n.
-          let k = refused-keeps (r .marks) (command-of r v) bank out a m bank′ out′ d (λ q. n (number-is′ q)) in (
+          let k = refused-keeps (r .marks) (command-of r v) bank out win a m bank′ out′ win′ d (λ q. n (number-is′ q)) in (
             h .refusal (λ q. n (number-is′ q)) ∙ ap (λ (b : Answer). 16 + number b) (sym (h .back)),
-            card a refl (λ q. n (number-is′ q)) (runs-eleven (r .marks) (command-of r v) bank out a m bank′ out′ d),
+            card a refl (λ q. n (number-is′ q)) (runs-eleven (r .marks) (command-of r v) bank out win a m bank′ out′ win′ d),
             λ i. with-at i (register r 7) (pending-bit a) ∙ ap (λ (t : Bool). is-set i (register r 7) || t) (second i (λ q. n (number-is′ q))),
             k .0,
             k .1,
             k .2,
+            k .3,
           );
     })
       where
         h : Comes a
-        h = runs-come (r .marks) (command-of r v) bank out a m bank′ out′ d
+        h = runs-come (r .marks) (command-of r v) bank out win a m bank′ out′ win′ d
 
         number-is : number (answer-in (answer-byte a) (detail-byte a)) ≡ 0 → number a ≡ 0
         number-is n = sym (ap number (h .back)) ∙ n
@@ -104,15 +106,15 @@ commands-leave r v bank out x r′ bank′ out′ z w =
 -- ---- the registers after a write to another byte
 pub stores-leave : StoresLeave
 unfolding WriteDone
-stores-leave r zero v bank out x r′ bank′ out′ l z c w = absurd (z refl)
-stores-leave r (suc a) v bank out x r′ bank′ out′ l z c w =
+stores-leave r zero v bank out win x r′ bank′ out′ win′ l z c w = absurd (z refl)
+stores-leave r (suc a) v bank out win x r′ bank′ out′ win′ l z c w =
     let d = by-accepted (write-cause r (suc a) v) x _ _ c w .1 in
     rw (d .0) (record {
       written = λ n. at v (ne-eqb (suc a) 7 n);
       cleared = λ e i. ap (is-set i) (seven e) ∙ without-at i (register r 7) v;
       others = λ i n. getD-set-other (r .front) (suc a) i _ 0 n;
       marks = refl;
-      lent = (d .1, d .2);
+      lent = (d .1, d .2, d .3);
     })
   where
     -- the address is below 8, since 12 and 13 are not given

@@ -1,5 +1,5 @@
 -- What every caller of the functions on registers gets is what specs/ says: `..-tied`: what the caller learns; `..-asks`: the caller owes
--- nothing, for any registers, address, value, bank and output. Where a contract is changed, this file is refused.
+-- nothing, for any registers, address, value, bank, output and window. Where a contract is changed, this file is refused.
 use contract.Lifetimes
 use borrow.Fn.Kinds
 use borrow.Fn.World
@@ -28,13 +28,13 @@ use Rattle.registers.proofs.to_bytes as to-bytes
 use Rattle.registers.proofs.to_bytes.Kinds as to-bytes-kinds
 use Rattle.registers.proofs.to_bytes.Reads as to-bytes-reads
 
-pub write-tied : (κs : Lifetimes.Lfts 2) (a : World.ArgsD write.signature κs) (r : World.ResD write.signature κs)
-    (s : Clauses.AtExit (Kinds.endedOf 2 write-kinds.ps write-kinds.r) κs) → write-reads.Learnt κs a r s
-    → WriteDone (a .0) (a .1 .0) (a .1 .1 .0) (now (a .1 .1 .1 .0)) (now (a .1 .1 .1 .1 .0)) (outcome-answer (r .answer)) (r .registers)
-    (now (s .1 .1 .1 .0)) (now (s .1 .1 .1 .1 .0))
+pub write-tied : (κs : Lifetimes.Lfts 3) (a : World.ArgsD write.signature κs) (r : World.ResD write.signature κs)
+    (s : Clauses.AtExit (Kinds.endedOf 3 write-kinds.ps write-kinds.r) κs) → write-reads.Learnt κs a r s
+    → WriteDone (a .0) (a .1 .0) (a .1 .1 .0) (now (a .1 .1 .1 .0)) (now (a .1 .1 .1 .1 .0)) (now (a .1 .1 .1 .1 .1 .0)) (outcome-answer (r .answer))
+    (r .registers) (now (s .1 .1 .1 .0)) (now (s .1 .1 .1 .1 .0)) (now (s .1 .1 .1 .1 .1 .0))
 write-tied κs a r s l = l
 
-pub write-asks : (κs : Lifetimes.Lfts 2) (a : World.ArgsD write.signature κs) → write-reads.Asked κs a
+pub write-asks : (κs : Lifetimes.Lfts 3) (a : World.ArgsD write.signature κs) → write-reads.Asked κs a
 write-asks κs a = tt
 
 pub read-tied : (κs : Lifetimes.Lfts 0) (a : World.ArgsD read.signature κs) (r : World.ResD read.signature κs)

@@ -74,35 +74,36 @@ module _ (r : Registers) (v : ℕ) where
   known-0 c e h = command-0 (ap is-unknown e ∙ h)
 
   -- ---- the contract
-  module _ (bank out : List ℕ) where
+  module _ (bank out win : List ℕ) where
     pub write-refused : (a n : ℕ) (ans : Answer) (r′ : Registers) → ans ≡ refused n → r′ ≡ r → write-cause r a v ≡ n → n ≢ 0
-        → WriteDone r a v bank out ans r′ bank out
+        → WriteDone r a v bank out win ans r′ bank out win
     unfolding WriteDone
-    write-refused a n ans r′ e q c z = rw (e, q) (by-refused (write-cause r a v) n _ _ c z (refl, refl, refl))
+    write-refused a n ans r′ e q c z = rw (e, q) (by-refused (write-cause r a v) n _ _ c z (refl, refl, refl, refl))
 
     pub write-stored : (a x : ℕ) (ans : Answer) (r′ : Registers) → ans ≡ done → r′ ≡ record { front = set (r .front) a x; marks = r .marks }
-        → x ≡ if (eqb a 7) (without-bits (register r 7) v) v → write-cause r a v ≡ 0 → a ≢ 0 → WriteDone r a v bank out ans r′ bank out
+        → x ≡ if (eqb a 7) (without-bits (register r 7) v) v → write-cause r a v ≡ 0 → a ≢ 0 → WriteDone r a v bank out win ans r′ bank out win
     unfolding WriteDone
     write-stored zero x ans r′ e q s c z = absurd (z refl)
     write-stored (suc a) x ans r′ e q s c z = by-done (write-cause r (suc a) v) ans _ _ c
-        (e, (q ∙ ap (λ (y : ℕ). record { front = set (r .front) (suc a) y; marks = r .marks }) s, refl, refl))
+        (e, (q ∙ ap (λ (y : ℕ). record { front = set (r .front) (suc a) y; marks = r .marks }) s, refl, refl, refl))
 
     pub write-plain : (a : ℕ) (ans : Answer) (r′ : Registers) → ans ≡ done → r′ ≡ record { front = set (r .front) a v; marks = r .marks } → OneRegister a
-        → WriteDone r a v bank out ans r′ bank out
+        → WriteDone r a v bank out win ans r′ bank out win
     write-plain a ans r′ e q p =
         write-stored a v ans r′ e q (sym (ap (λ (t : Bool). if t (without-bits (register r 7) v) v) (ne-eqb a 7 (p .pending))))
         (plain-0 a (p .command) (p .below) (p .answer) (p .detail)) (p .command)
 
     pub write-cleared : (x : ℕ) (ans : Answer) (r′ : Registers) → ans ≡ done → r′ ≡ record { front = set (r .front) 7 x; marks = r .marks }
-        → x ≡ without-bits (register r 7) v → WriteDone r 7 v bank out ans r′ bank out
+        → x ≡ without-bits (register r 7) v → WriteDone r 7 v bank out win ans r′ bank out win
     write-cleared x ans r′ e q s =
         write-stored 7 x ans r′ e q s (plain-0 7 (λ z. omega arith) (omega arith) (λ z. omega arith) (λ z. omega arith)) (λ z. omega arith)
 
-    pub command-done : (c : Command) → c ≡ command-of r v → (a : Answer) (m′ : Marks) (bank′ out′ : List ℕ) → Runs (r .marks) c bank out a m′ bank′ out′
+    pub command-done : (c : Command) → c ≡ command-of r v → (a : Answer) (m′ : Marks) (bank′ out′ win′ : List ℕ)
+        → Runs (r .marks) c bank out win a m′ bank′ out′ win′
         → (t : Told) → t ≡ told-by a → (s : Registers) → s ≡ after-command r v t m′ → (ans : Answer) → ans ≡ done → (r′ : Registers) → r′ ≡ s
-        → WriteDone r 0 v bank out ans r′ bank′ out′
+        → WriteDone r 0 v bank out win ans r′ bank′ out′ win′
     unfolding WriteDone
-    command-done c e a m′ bank′ out′ w t q s f ans g r′ h =
-        let u = subst (λ (d : Command). Runs (r .marks) d bank out a m′ bank′ out′) e w in
-        by-done (write-cause r 0 v) ans _ _ (command-0 (known (r .marks) (command-of r v) bank out a m′ bank′ out′ u))
+    command-done c e a m′ bank′ out′ win′ w t q s f ans g r′ h =
+        let u = subst (λ (d : Command). Runs (r .marks) d bank out win a m′ bank′ out′ win′) e w in
+        by-done (write-cause r 0 v) ans _ _ (command-0 (known (r .marks) (command-of r v) bank out win a m′ bank′ out′ win′ u))
         (g, (a, m′, u, h ∙ f ∙ ap (λ (x : Told). after-command r v x m′) q))

@@ -6,7 +6,7 @@
 --   WriteNumbers        when a write is refused, and with which number
 --   answer-in           the answer that bytes 4 and 5 tell; last-answer: that of the registers; AnswersBack: it is the command's own
 --   RefusedKeeps        a refused command changes only registers
---   CommandLeaves       what a command does: the call's answer, its marks, bank and output; which registers it leaves, and which bit it sets
+--   CommandLeaves       what a command does: the call's answer, its marks, bank, output and window; which registers it leaves, and which bit it sets
 --   StoreLeaves         what a write to another byte does
 --   ReadNumbers         when a read is refused, and what it finds
 --   but-card-registers  the registers, but for the card with 11; WriteDecided: two outcomes of a write agree
@@ -89,18 +89,18 @@ abbrev pub last-answer : Registers → Answer
 last-answer r = answer-in (register r 4) (register r 5)
 
 abbrev pub AnswersBack : Type 0
-AnswersBack = (m : Marks) (c : Command) (bank out : List ℕ) (a : Answer) (m′ : Marks) (bank′ out′ : List ℕ)
-    → Runs m c bank out a m′ bank′ out′ → answer-in (answer-byte a) (detail-byte a) ≡ a
+AnswersBack = (m : Marks) (c : Command) (bank out w : List ℕ) (a : Answer) (m′ : Marks) (bank′ out′ w′ : List ℕ)
+    → Runs m c bank out w a m′ bank′ out′ w′ → answer-in (answer-byte a) (detail-byte a) ≡ a
 
 -- "a refused command changes only registers", and of those not the mark record
 abbrev pub RefusedKeeps : Type 0
-RefusedKeeps = (m : Marks) (c : Command) (bank out : List ℕ) (a : Answer) (m′ : Marks) (bank′ out′ : List ℕ)
-    → Runs m c bank out a m′ bank′ out′ → number a ≢ 0 → (m′ ≡ m) × (bank′ ≡ bank) × (out′ ≡ out)
+RefusedKeeps = (m : Marks) (c : Command) (bank out w : List ℕ) (a : Answer) (m′ : Marks) (bank′ out′ w′ : List ℕ)
+    → Runs m c bank out w a m′ bank′ out′ w′ → number a ≢ 0 → (m′ ≡ m) × (bank′ ≡ bank) × (out′ ≡ out) × (w′ ≡ w)
 
 -- a command that is not refused as a write: it did what the call does, and the registers tell the call's answer; byte 0 holds it, and bit 0
 -- or bit 1 of byte 7 is set
-pub record CommandLeaves (r : Registers) (v : ℕ) (bank out : List ℕ) (r′ : Registers) (bank′ out′ : List ℕ) : Type 0 where
-  pub call : Runs (r .marks) (command-of r v) bank out (last-answer r′) (r′ .marks) bank′ out′
+pub record CommandLeaves (r : Registers) (v : ℕ) (bank out w : List ℕ) (r′ : Registers) (bank′ out′ w′ : List ℕ) : Type 0 where
+  pub call : Runs (r .marks) (command-of r v) bank out w (last-answer r′) (r′ .marks) bank′ out′ w′
   pub command : register r′ 0 ≡ v
   pub others : (i : ℕ) → In i (1 ∷ 2 ∷ 3 ∷ 6 ∷ []) → register r′ i ≡ register r i
   pub done : number (last-answer r′) ≡ 0 → (i : ℕ) → is-set i (register r′ 7) ≡ (is-set i (register r 7) || eqb i 0)
@@ -108,23 +108,24 @@ pub record CommandLeaves (r : Registers) (v : ℕ) (bank out : List ℕ) (r′ :
       → (register r′ 4 ≡ 16 + number (last-answer r′))
       × ((register r′ 5 ≡ 0) ⊎ ((j : ℕ) × (last-answer r′ ≡ refused-card 11 j) × (register r′ 5 ≡ 16 * j)))
       × ((i : ℕ) → is-set i (register r′ 7) ≡ (is-set i (register r 7) || eqb i 1)) × (r′ .marks ≡ r .marks) × (bank′ ≡ bank) × (out′ ≡ out)
+      × (w′ ≡ w)
 
 abbrev pub CommandsLeave : Type 0
-CommandsLeave = (r : Registers) (v : ℕ) (bank out : List ℕ) (x : Answer) (r′ : Registers) (bank′ out′ : List ℕ) → write-cause r 0 v ≡ 0
-    → WriteDone r 0 v bank out x r′ bank′ out′ → CommandLeaves r v bank out r′ bank′ out′
+CommandsLeave = (r : Registers) (v : ℕ) (bank out w : List ℕ) (x : Answer) (r′ : Registers) (bank′ out′ w′ : List ℕ) → write-cause r 0 v ≡ 0
+    → WriteDone r 0 v bank out w x r′ bank′ out′ w′ → CommandLeaves r v bank out w r′ bank′ out′ w′
 
 -- a write to another byte: that byte alone is changed
-pub record StoreLeaves (r : Registers) (a v : ℕ) (bank out : List ℕ) (r′ : Registers) (bank′ out′ : List ℕ) : Type 0 where
+pub record StoreLeaves (r : Registers) (a v : ℕ) (bank out w : List ℕ) (r′ : Registers) (bank′ out′ w′ : List ℕ) : Type 0 where
   pub written : a ≢ 7 → register r′ a ≡ v
   pub cleared : a ≡ 7 → (i : ℕ) → is-set i (register r′ 7) ≡ (is-set i (register r 7) && not (is-set i v))
   pub others : (i : ℕ) → i ≢ a → register r′ i ≡ register r i
   pub marks : r′ .marks ≡ r .marks
-  pub lent : (bank′ ≡ bank) × (out′ ≡ out)
+  pub lent : (bank′ ≡ bank) × (out′ ≡ out) × (w′ ≡ w)
 
 -- of registers that have bytes 0 to 7
 abbrev pub StoresLeave : Type 0
-StoresLeave = (r : Registers) (a v : ℕ) (bank out : List ℕ) (x : Answer) (r′ : Registers) (bank′ out′ : List ℕ) → length (r .front) ≡ 8 → a ≢ 0
-    → write-cause r a v ≡ 0 → WriteDone r a v bank out x r′ bank′ out′ → StoreLeaves r a v bank out r′ bank′ out′
+StoresLeave = (r : Registers) (a v : ℕ) (bank out w : List ℕ) (x : Answer) (r′ : Registers) (bank′ out′ w′ : List ℕ) → length (r .front) ≡ 8 → a ≢ 0
+    → write-cause r a v ≡ 0 → WriteDone r a v bank out w x r′ bank′ out′ w′ → StoreLeaves r a v bank out w r′ bank′ out′ w′
 
 -- "12: address above 11"
 pub record ReadNumbers (r : Registers) (a : ℕ) : Type 0 where
@@ -137,9 +138,9 @@ unfoldable pub but-card-registers : Registers → Registers
 but-card-registers r = record { front = set (r .front) 5 (if (eqb (register r 4) 27) 0 (register r 5)); marks = r .marks }
 
 abbrev pub WriteDecided : Type 0
-WriteDecided = (r : Registers) (a v : ℕ) (bank out : List ℕ) (x x′ : Answer) (r′ r″ : Registers) (bank′ bank″ out′ out″ : List ℕ)
-    → WriteDone r a v bank out x r′ bank′ out′ → WriteDone r a v bank out x′ r″ bank″ out″
-    → (x ≡ x′) × (but-card-registers r′ ≡ but-card-registers r″) × (bank′ ≡ bank″) × (out′ ≡ out″)
+WriteDecided = (r : Registers) (a v : ℕ) (bank out w : List ℕ) (x x′ : Answer) (r′ r″ : Registers) (bank′ bank″ out′ out″ w′ w″ : List ℕ)
+    → WriteDone r a v bank out w x r′ bank′ out′ w′ → WriteDone r a v bank out w x′ r″ bank″ out″ w″
+    → (x ≡ x′) × (but-card-registers r′ ≡ but-card-registers r″) × (bank′ ≡ bank″) × (out′ ≡ out″) × (w′ ≡ w″)
 
 -- ---- twelve bytes
 abbrev pub TwelveBytes : Type 0

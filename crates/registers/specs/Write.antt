@@ -48,13 +48,13 @@ is-unknown (Patrol k) = false
 is-unknown (Mark c) = false
 is-unknown Unknown = true
 
--- "Each command does what the library call does with the marks in bytes 8 to 11": marks, bank and output as they go in and come out;
--- what the call is not handed stays
-abbrev pub Runs : Marks → Command → List ℕ → List ℕ → Answer → Marks → List ℕ → List ℕ → Type 0
-Runs m (Get k) bank out a m′ bank′ out′ = GetDone bank k m out a bank′ out′ × (m′ ≡ m)
-Runs m (Patrol k) bank out a m′ bank′ out′ = PatrolDone bank k m a bank′ × (m′ ≡ m) × (out′ ≡ out)
-Runs m (Mark c) bank out a m′ bank′ out′ = MarkDone m c a m′ × (bank′ ≡ bank) × (out′ ≡ out)
-Runs m Unknown bank out a m′ bank′ out′ = ⊥
+-- "Each command does what the library call does with the marks in bytes 8 to 11": marks, bank, output and window as they go in and come
+-- out; what the call is not handed stays
+abbrev pub Runs : Marks → Command → List ℕ → List ℕ → List ℕ → Answer → Marks → List ℕ → List ℕ → List ℕ → Type 0
+Runs m (Get k) bank out w a m′ bank′ out′ w′ = GetDone bank k m out w a bank′ out′ w′ × (m′ ≡ m)
+Runs m (Patrol k) bank out w a m′ bank′ out′ w′ = PatrolDone bank k m w a bank′ w′ × (m′ ≡ m) × (out′ ≡ out)
+Runs m (Mark c) bank out w a m′ bank′ out′ w′ = MarkDone m c a m′ × (bank′ ≡ bank) × (out′ ≡ out) × (w′ ≡ w)
+Runs m Unknown bank out w a m′ bank′ out′ w′ = ⊥
 
 -- ---- an answer in the registers
 -- byte 4: "0 clean, 1 chips, 2 card, 3 mark placed or lifted, else 16 plus the refusal number"
@@ -116,18 +116,18 @@ read-only a = eqb a 4 || (eqb a 5 || (leb 8 a && leb a 11))
 unfoldable pub write-cause : Registers → ℕ → ℕ → ℕ
 write-cause r a v = lowest (cause 12 (ltb 11 a) ∷ cause 13 (read-only a) ∷ cause 14 (eqb a 0 && is-unknown (command-of r v)) ∷ [])
 
--- registers, bank and output after a write that is not refused: "Writing byte 0 runs the command on the lent bank and output."
-abbrev pub Writes : Registers → ℕ → ℕ → List ℕ → List ℕ → Registers → List ℕ → List ℕ → Type 0
-Writes r zero v bank out r′ bank′ out′ =
-    (a : Answer) × (m′ : Marks) × Runs (r .marks) (command-of r v) bank out a m′ bank′ out′ × (r′ ≡ ran r v a m′)
-Writes r (suc a) v bank out r′ bank′ out′ = (r′ ≡ stored r (suc a) v) × (bank′ ≡ bank) × (out′ ≡ out)
+-- registers, bank, output and window after a write that is not refused: "Writing byte 0 runs the command on the lent bank and output."
+abbrev pub Writes : Registers → ℕ → ℕ → List ℕ → List ℕ → List ℕ → Registers → List ℕ → List ℕ → List ℕ → Type 0
+Writes r zero v bank out w r′ bank′ out′ w′ =
+    (a : Answer) × (m′ : Marks) × Runs (r .marks) (command-of r v) bank out w a m′ bank′ out′ w′ × (r′ ≡ ran r v a m′)
+Writes r (suc a) v bank out w r′ bank′ out′ w′ = (r′ ≡ stored r (suc a) v) × (bank′ ≡ bank) × (out′ ≡ out) × (w′ ≡ w)
 
-unfoldable pub WriteDone : Registers → ℕ → ℕ → List ℕ → List ℕ → Answer → Registers → List ℕ → List ℕ → Type 0
-WriteDone r a v bank out ans r′ bank′ out′ =
-    By (write-cause r a v) ans ((r′ ≡ r) × (bank′ ≡ bank) × (out′ ≡ out)) ((ans ≡ done) × Writes r a v bank out r′ bank′ out′)
+unfoldable pub WriteDone : Registers → ℕ → ℕ → List ℕ → List ℕ → List ℕ → Answer → Registers → List ℕ → List ℕ → List ℕ → Type 0
+WriteDone r a v bank out w ans r′ bank′ out′ w′ =
+    By (write-cause r a v) ans ((r′ ≡ r) × (bank′ ≡ bank) × (out′ ≡ out) × (w′ ≡ w)) ((ans ≡ done) × Writes r a v bank out w r′ bank′ out′ w′)
 
-abbrev pub CommandDone : Registers → ℕ → List ℕ → List ℕ → Answer → Registers → List ℕ → List ℕ → Type 0
-CommandDone r v bank out ans r′ bank′ out′ = WriteDone r 0 v bank out ans r′ bank′ out′
+abbrev pub CommandDone : Registers → ℕ → List ℕ → List ℕ → List ℕ → Answer → Registers → List ℕ → List ℕ → List ℕ → Type 0
+CommandDone r v bank out w ans r′ bank′ out′ w′ = WriteDone r 0 v bank out w ans r′ bank′ out′ w′
 
 -- ---- a read
 unfoldable pub read-value : Registers → ℕ → Value

@@ -1,5 +1,5 @@
-// The corrector as twelve registers: a processor writes a command into byte 0, and the call that it stands for runs on the lent bank and
-// output. Document 02, order 1.
+// The corrector as twelve registers: a processor writes a command into byte 0, and the call that it stands for runs on the lent bank,
+// output and window. Document 02, order 1.
 //
 // The registers go in and come back by value. Bytes 8 to 11 are the mark record itself, so that nothing has to agree with it.
 mod answers;
@@ -170,19 +170,20 @@ fn after(r: Registers, v: u8, t: answers::Told, m: Marks) -> Registers
     }
 }
 
-// Runs the command v on the lent bank and output.
-fn run(r: Registers, v: u8, bank: &mut [u8], out: &mut [u8]) -> Written
+// Runs the command v on the lent bank, output and window.
+fn run(r: Registers, v: u8, bank: &mut [u8], out: &mut [u8], window: &mut [u8; 64]) -> Written
     ensures { λ w.
-        ⌜ CommandDone r v (now (bank .entry)) (now (out .entry)) (outcome-answer (w .answer)) (w .registers) (now (bank .exit)) (now (out .exit)) ⌝ }
+        ⌜ CommandDone r v (now (bank .entry)) (now (out .entry)) (now (window .entry)) (outcome-answer (w .answer)) (w .registers) (now (bank .exit))
+        (now (out .exit)) (now (window .exit)) ⌝ }
 {
     let m = r.marks;
     match command_of(r, v) {
         Command::Get(k) => {
-            let told = answers::of_reading(bank::get(bank, k, m, out));
+            let told = answers::of_reading(bank::get(bank, k, m, out, window));
             accepted(after(r, v, told, m))
         }
         Command::Patrol(k) => {
-            let told = answers::of_reading(bank::patrol(bank, k, m));
+            let told = answers::of_reading(bank::patrol(bank, k, m, window));
             accepted(after(r, v, told, m))
         }
         Command::Mark(c) => {
@@ -196,13 +197,21 @@ fn run(r: Registers, v: u8, bank: &mut [u8], out: &mut [u8]) -> Written
 }
 
 // Writes v to the byte at an address. Byte 0 runs a command; ones written to byte 7 clear its bits; 4, 5 and 8 to 11 are read only.
-pub fn write(r: Registers, a: u32, v: u8, bank: &mut [u8], out: &mut [u8]) -> Written
+pub fn write(
+    r: Registers,
+    a: u32,
+    v: u8,
+    bank: &mut [u8],
+    out: &mut [u8],
+    window: &mut [u8; 64],
+) -> Written
     ensures { λ w.
-        ⌜ WriteDone r a v (now (bank .entry)) (now (out .entry)) (outcome-answer (w .answer)) (w .registers) (now (bank .exit)) (now (out .exit)) ⌝ }
+        ⌜ WriteDone r a v (now (bank .entry)) (now (out .entry)) (now (window .entry)) (outcome-answer (w .answer)) (w .registers) (now (bank .exit))
+        (now (out .exit)) (now (window .exit)) ⌝ }
 {
     let f = r.front;
     match a {
-        0 => run(r, v, bank, out),
+        0 => run(r, v, bank, out, window),
         1..=3 | 6 => accepted(with_byte(r, a as usize, v)),
         7 => accepted(with_byte(r, 7, bits::without(f[7], v))),
         4..=5 | 8..=11 => refused(r, 13),

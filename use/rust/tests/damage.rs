@@ -2,7 +2,7 @@
 //!
 //! SEED=7 CASES=100000 ./tests      other cases, more of them
 
-use crate::livomashen::{self, Corrected, BLOCK, FRESH, RECORD};
+use crate::livomashen::{self, Corrected, Window, BLOCK, FRESH, RECORD};
 use crate::random::Random;
 use crate::{number, plain};
 
@@ -14,7 +14,7 @@ pub fn from_environment(name: &str, otherwise: u64) -> u64 {
 }
 
 /// plain.rs's words as ours.
-fn as_ours(answer: plain::Answer) -> Result<Corrected, u8> {
+pub fn as_ours(answer: plain::Answer) -> Result<Corrected, u8> {
     match answer {
         plain::Answer::Clean => Ok(Corrected::Clean),
         plain::Answer::Chips { n } => Ok(Corrected::Chips { n }),
@@ -153,32 +153,19 @@ fn random_banks_count_as_by_plain() {
 
 /// Every block is got, then patrolled: both answers, and every byte after.
 fn patrols_as_by_plain(bank: &mut [u8], marks: &[u8; 4], blocks: usize) {
+    let (mut window, mut wanted_window) = (Window::fresh(), [255; 64]);
+    let mut wanted_bank = bank.to_vec();
     for k in 0..blocks {
-        let mut wanted_bank = bank.to_vec();
-        let block = bank[BLOCK * k..BLOCK * (k + 1)].to_vec();
-        let wanted = as_ours(plain::read(
-            &block,
-            marks,
-            &mut wanted_bank[BLOCK * k..BLOCK * (k + 1)],
-        ));
-        let mut out = [0xA5; BLOCK];
-        assert_eq!(
-            number(livomashen::get(bank, k, marks, &mut out)),
-            wanted,
-            "get {k}"
-        );
-        if wanted.is_ok() {
-            assert_eq!(
-                out,
-                wanted_bank[BLOCK * k..BLOCK * (k + 1)],
-                "get {k}, output"
-            );
-        }
-        assert_eq!(
-            number(livomashen::patrol(bank, k, marks)),
-            wanted,
-            "patrol {k}"
-        );
+        let (mut out, mut wanted_out) = ([0xA5; BLOCK], [0xA5; BLOCK]);
+        let got = livomashen::get(bank, k, marks, &mut out, &mut window);
+        let wanted = plain::window::get(bank, k, marks, &mut wanted_out, &mut wanted_window);
+        assert_eq!(number(got), as_ours(wanted), "get {k}");
+        assert_eq!(out, wanted_out, "get {k}, output");
+        assert_eq!(*window.bytes(), wanted_window, "get {k}, window");
+        let patrolled = livomashen::patrol(bank, k, marks, &mut window);
+        let wanted = plain::window::patrol(&mut wanted_bank, k, marks, &mut wanted_window);
+        assert_eq!(number(patrolled), as_ours(wanted), "patrol {k}");
         assert!(*bank == *wanted_bank, "patrol {k}, bank");
+        assert_eq!(*window.bytes(), wanted_window, "patrol {k}, window");
     }
 }

@@ -1,6 +1,6 @@
 //! Every length, every mark byte, and what a refused call leaves alone.
 
-use crate::livomashen::{self, Corrected, Refusal, BLOCK, FRESH, RECORD};
+use crate::livomashen::{self, Corrected, Refusal, Window, BLOCK, FRESH, RECORD};
 use crate::{number, plain};
 
 #[test]
@@ -50,7 +50,7 @@ fn every_length_of_record_and_output() {
 #[test]
 fn banks_and_block_numbers() {
     let record = [9; RECORD];
-    let mut out = [0; BLOCK];
+    let (mut out, mut window) = ([0; BLOCK], Window::fresh());
     for len in [
         0, 1, 44, 45, 46, 89, 90, 91, 4500, 46_079, 46_080, 46_081, 46_125,
     ] {
@@ -85,9 +85,9 @@ fn banks_and_block_numbers() {
                 wanted,
                 "put {k} of {len}"
             );
-            let got = livomashen::get(&bank, k, &FRESH, &mut out);
+            let got = livomashen::get(&bank, k, &FRESH, &mut out, &mut window);
             assert_eq!(number(got).map(|_| ()), wanted, "get {k} of {len}");
-            let patrolled = livomashen::patrol(&mut bank, k, &FRESH);
+            let patrolled = livomashen::patrol(&mut bank, k, &FRESH, &mut window);
             assert_eq!(number(patrolled).map(|_| ()), wanted, "patrol {k} of {len}");
             assert!(
                 wanted.is_ok() || bank == before,
@@ -100,10 +100,12 @@ fn banks_and_block_numbers() {
             Err(refusal) => assert_eq!(counted.map(|_| ()), Err(refusal)),
         }
     }
+    assert_eq!(window, Window::fresh());
 }
 
 #[test]
 fn empty_slices() {
+    let mut window = Window::fresh();
     assert_eq!(livomashen::store(&[], &mut []), Err(Refusal::OutputLength));
     assert_eq!(
         livomashen::read(&[], &[], &mut []),
@@ -112,11 +114,11 @@ fn empty_slices() {
     assert_eq!(livomashen::clear(&mut []), Err(Refusal::BankLength));
     assert_eq!(livomashen::put(&mut [], 0, &[]), Err(Refusal::RecordLength));
     assert_eq!(
-        livomashen::get(&[], 0, &[], &mut []),
+        livomashen::get(&[], 0, &[], &mut [], &mut window),
         Err(Refusal::OutputLength)
     );
     assert_eq!(
-        livomashen::patrol(&mut [], 0, &[]),
+        livomashen::patrol(&mut [], 0, &[], &mut window),
         Err(Refusal::BankLength)
     );
     assert_eq!(livomashen::report(&[], &[]), Err(Refusal::BankLength));
@@ -124,6 +126,7 @@ fn empty_slices() {
     assert_eq!(livomashen::lift_chip(&mut [], 0), Err(Refusal::MarkRange));
     assert_eq!(livomashen::place_card(&mut [], 0), Err(Refusal::MarkRange));
     assert_eq!(livomashen::lift_card(&mut []), Err(Refusal::MarkRange));
+    assert_eq!(window.propose(&[]), Err(Refusal::MarkRange));
 }
 
 #[test]

@@ -3,7 +3,7 @@
 use crate::livomashen::{self, Corrected, Refusal, BLOCK, FRESH};
 use crate::number;
 
-fn zeros_with(changes: &[(usize, u8)]) -> [u8; BLOCK] {
+pub fn zeros_with(changes: &[(usize, u8)]) -> [u8; BLOCK] {
     let mut block = [0; BLOCK];
     for &(p, value) in changes {
         block[p] = value;

@@ -8,87 +8,67 @@ use Rattle.answer.specs.Answer.{clean}
 use Rattle.code.specs.Block.{Block}
 use Rattle.change.specs.Change.{applied}
 use Rattle.reading.specs.Reading.{reading-answer}
-use Rattle.block.proofs.Causes.{read-1, read-2, read-marks}
-use Rattle.block.proofs.Done.{clean-read, decoded-read, read-refused, read-done, written, left}
+use Rattle.block.proofs.Causes.{read-none}
+use Rattle.block.proofs.Done.{clean-read, decoded-read, deliver, read-refused, read-done}
 use Rattle.block.proofs.read.Statement.{statement}
 use Rattle.block.proofs.read.Tie as tie
 
 returns : tie.Need-returns
-returns c = read-refused _ _ _ 1 (read-1 _ _ _ (c .if1 .taken)) (λ z. omega arith)
+returns c = read-refused _ _ _ _ (sym (c .before .read-cause .ensures)) (c .if1 .taken)
+
+-- both are 45 bytes, since the call is not refused
+copy-block-requires : tie.Need-copy-block-requires
+copy-block-requires c κs =
+    let call = c .before .before .before .before .before in
+    let s = call .before .before .before in
+    let h = read-none (length (s .args .received .now)) (s .args .m) (length (s .args .out .now)) (sym (call .read-cause .ensures)
+    ∙ c .before .before .before .before .if1 .left) in
+    (h .0, h .1)
+
+correct-requires : tie.Need-correct-requires
+correct-requires c κs =
+    let call = c .before .before .before .before .before in
+    let s = call .before .before .before in
+    let h = read-none (length (s .args .received .now)) (s .args .m) (length (s .args .out .now)) (sym (call .read-cause .ensures)
+    ∙ c .before .before .before .before .if1 .left) in
+    (h .0, h .1)
 
 returns-2 : tie.Need-returns-2
-returns-2 c = read-refused _ _ _ 2 (read-2 _ _ _ (c .before .if1 .left) (c .if2 .taken)) (λ z. omega arith)
-
-returns-3 : tie.Need-returns-3
-returns-3 c =
-    let e = c .before .before in
-    read-refused _ _ _ _ (read-marks _ _ _ (e .before .if1 .left) (e .if2 .left) ∙ sym (c .before .marks-cause .ensures)) (c .if3 .taken)
-
-returns-4 : tie.Need-returns-4
-returns-4 c =
+returns-2 c =
     let copy = c .before .before in
     let zero = copy .before .before .before in
     let sums = zero .before in
-    let marked = sums .before in
-    let long = marked .before .before in
-    let start = long .before .before .before .before in
-    let b = start .args .received .now in
-    let m = start .args .m in
-    let out = start .args .out .now in
-    let lawful = sym (marked .before .marks-cause .ensures) ∙ marked .if3 .left in
-    let bb : Block b = record { long = long .before .if1 .left; bytes = λ p l. omega (arith, long .before .before .before .shared-slice-known .given p) } in
-    let e = read-marks (length b) m _ (long .before .if1 .left) (long .if2 .left) ∙ lawful in
-    let s = sums .of-block .ensures .block (long .before .if1 .left) in
+    let call = sums .before .before in
+    let s = call .before .before .before in
+    let b = s .args .received .now in
+    let m = s .args .m in
+    let out = s .args .out .now in
+    let e = sym (call .read-cause .ensures) ∙ sums .before .if1 .left in
+    let h = read-none (length b) m (length out) e in
+    let bb : Block b = record { long = h .0; bytes = λ p l. omega (arith, call .before .before .shared-slice-known .given p) } in
+    let p = passes (zero .is-zero .ensures) (copy .before .before .if2 .taken) in
     read-done b m out clean _ e (rw (copy .copy-block .ensures .0)
-    (clean-read m lawful b bb (sums .of-block .result) s (passes (zero .is-zero .ensures) (copy .before .before .if4 .taken)) out))
+    (clean-read m (h .2) b bb (sums .of-block .result) (sums .of-block .ensures .block (h .0)) p out))
 
-returns-5 : tie.Need-returns-5
-returns-5 c =
-    let apply = c .before .before in
-    let copy = apply .before .before .before .before in
-    let corrected = copy .before .before .before in
-    let decode = corrected .before in
-    let sums = decode .before .before .before in
-    let marked = sums .before in
-    let long = marked .before .before in
-    let start = long .before .before .before .before in
-    let b = start .args .received .now in
-    let m = start .args .m in
-    let out = start .args .out .now in
-    let lawful = sym (marked .before .marks-cause .ensures) ∙ marked .if3 .left in
-    let bb : Block b = record { long = long .before .if1 .left; bytes = λ p l. omega (arith, long .before .before .before .shared-slice-known .given p) } in
-    let e = read-marks (length b) m _ (long .before .if1 .left) (long .if2 .left) ∙ lawful in
-    let s = sums .of-block .ensures .block (long .before .if1 .left) in
-    let a = reading-answer (decode .decode .result .reading) in
-    let x = applied b (decode .decode .result .change) in
-    let w = decoded-read m lawful b bb (sums .of-block .result) s (decode .decode .result) (decode .decode .ensures) in
-    read-done b m out a _ e
-    (rw (apply .apply .ensures, copy .copy-block2 .ensures .0)
-    (written m b a x w _ (corrected .was-corrected .ensures) (copy .before .before .if5 .taken) out))
-
-returns-6 : tie.Need-returns-6
-returns-6 c =
-    let corrected = c .before in
-    let decode = corrected .before in
-    let sums = decode .before .before .before in
-    let marked = sums .before in
-    let long = marked .before .before in
-    let start = long .before .before .before .before in
-    let b = start .args .received .now in
-    let m = start .args .m in
-    let out = start .args .out .now in
-    let lawful = sym (marked .before .marks-cause .ensures) ∙ marked .if3 .left in
-    let bb : Block b = record { long = long .before .if1 .left; bytes = λ p l. omega (arith, long .before .before .before .shared-slice-known .given p) } in
-    let e = read-marks (length b) m _ (long .before .if1 .left) (long .if2 .left) ∙ lawful in
-    let s = sums .of-block .ensures .block (long .before .if1 .left) in
-    let a = reading-answer (decode .decode .result .reading) in
-    let x = applied b (decode .decode .result .change) in
-    let w = decoded-read m lawful b bb (sums .of-block .result) s (decode .decode .result) (decode .decode .ensures) in
-    read-done b m out a out e (left m b a x w _ (corrected .was-corrected .ensures) (c .if5 .left) out)
+returns-3 : tie.Need-returns-3
+returns-3 c =
+    let corrected = c .before .before in
+    let sums = corrected .before .before .before .before in
+    let call = sums .before .before in
+    let s = call .before .before .before in
+    let d = corrected .correct .result in
+    let b = s .args .received .now in
+    let m = s .args .m in
+    let out = s .args .out .now in
+    let e = sym (call .read-cause .ensures) ∙ sums .before .if1 .left in
+    let h = read-none (length b) m (length out) e in
+    let bb : Block b = record { long = h .0; bytes = λ p l. omega (arith, call .before .before .shared-slice-known .given p) } in
+    let w = decoded-read m (h .2) b bb (sums .of-block .result) (sums .of-block .ensures .block (h .0)) d (corrected .correct .ensures .decoded) in
+    read-done b m out (reading-answer (d .reading)) _ e
+    (rw (corrected .correct .ensures .output) (deliver m b b (reading-answer (d .reading)) (applied b (d .change)) w out))
 
 pub read-spec : {M : Type 1} → statement M
 read-spec =
     tie.close
-    (tie.spec returns returns-2 (λ c κs. search needs) returns-3 (λ c κs. search needs) (λ c κs. search needs) (λ c κs. search needs)
-    (λ c. search needs) returns-4 (λ c κs. search needs) (λ c κs. search needs) (λ c κs. search needs) (λ c κs. search needs) (λ c. search needs)
-    returns-5 returns-6)
+    (tie.spec (λ c κs. search needs) returns (λ c κs. search needs) (λ c κs. search needs) copy-block-requires (λ c. search needs) returns-2
+    correct-requires (λ c. search needs) returns-3)

@@ -17,31 +17,31 @@ with-byte-requires-2 c κs = omega (arith, plain c .below)
 returns : tie.Need-returns
 returns c =
     let w = c .before .before .before .before in
-    rw (w .before .before .before .match .keys1) (w .run .ensures)
+    rw (w .before .before .before .before .match .keys1) (w .run .ensures)
 
 returns-2 : tie.Need-returns-2
 returns-2 c =
     let b = c .before in
     let w = b .before in
     rw (w .before .match .keys3)
-    (write-cleared _ _ _ _ _ _ _ (c .accepted .ensures .0) (c .accepted .ensures .1 ∙ b .with-byte .ensures) (w .without .ensures))
+    (write-cleared _ _ _ _ _ _ _ _ (c .accepted .ensures .0) (c .accepted .ensures .1 ∙ b .with-byte .ensures) (w .without .ensures))
 
 returns-3 : tie.Need-returns-3
 returns-3 c =
     let t = c .before in
     let e = t .before in
     let m = e .before .match .rest in
-    write-refused _ _ _ _ _ 13 _ _ (c .refused .ensures .0) (c .refused .ensures .1) (read-13 _ _ _ (e .if1 .left) (t .if2 .taken) (m .0 .1) (m .1))
+    write-refused _ _ _ _ _ _ 13 _ _ (c .refused .ensures .0) (c .refused .ensures .1) (read-13 _ _ _ (e .if1 .left) (t .if2 .taken) (m .0 .1) (m .1))
     (λ z. omega arith)
 
 returns-4 : tie.Need-returns-4
 returns-4 c =
-    write-refused _ _ _ _ _ 12 _ _ (c .refused2 .ensures .0) (c .refused2 .ensures .1) (above-11 _ _ _ (c .before .if2 .left)) (λ z. omega arith)
+    write-refused _ _ _ _ _ _ 12 _ _ (c .refused2 .ensures .0) (c .refused2 .ensures .1) (above-11 _ _ _ (c .before .if2 .left)) (λ z. omega arith)
 
 returns-5 : tie.Need-returns-5
 returns-5 c =
     let b = c .before in
-    write-plain _ _ _ _ _ _ _ (c .accepted2 .ensures .0) (c .accepted2 .ensures .1 ∙ b .with-byte2 .ensures) (plain (b .before))
+    write-plain _ _ _ _ _ _ _ _ (c .accepted2 .ensures .0) (c .accepted2 .ensures .1 ∙ b .with-byte2 .ensures) (plain (b .before))
 
 pub write-spec : {M : Type 1} → statement M
 write-spec =

@@ -1,6 +1,7 @@
-//! A record is put into a bank, card 1 is pulled, and the record is got again.
+//! A record is put into a bank, card 1 is pulled, and the record is got again.  Then
+//! a chip is going, and is proposed.
 
-use livomashen::{Corrected, Refusal, BLOCK, FRESH, RECORD};
+use livomashen::{Corrected, Refusal, Window, BLOCK, FRESH, RECORD};
 
 fn main() -> Result<(), Refusal> {
     let mut bank = [0; 4 * BLOCK];
@@ -10,13 +11,23 @@ fn main() -> Result<(), Refusal> {
     livomashen::put(&mut bank, 2, &record)?;
 
     bank[2 * BLOCK + 9..2 * BLOCK + 18].fill(0xFF);
-    let mut out = [0; BLOCK];
-    let said = livomashen::get(&bank, 2, &FRESH, &mut out);
+    let (mut out, mut window) = ([0; BLOCK], Window::fresh());
+    let said = livomashen::get(&bank, 2, &FRESH, &mut out, &mut window);
     assert_eq!(said, Ok(Corrected::Card { card: 1, n: 9 }));
     assert_eq!(livomashen::record_of(&out, &said), record);
 
-    livomashen::patrol(&mut bank, 2, &FRESH)?;
+    livomashen::patrol(&mut bank, 2, &FRESH, &mut window)?;
     let totals = livomashen::report(&bank, &FRESH)?;
     println!("{} of 4 clean", totals.clean);
+
+    // The card is a new one: what the old one did says nothing of it.
+    window.clear();
+    for _ in 0..4 {
+        bank[2 * BLOCK + 31] ^= 0x55;
+        livomashen::patrol(&mut bank, 2, &FRESH, &mut window)?;
+    }
+    assert!(window.positions().eq([31; 4]));
+    assert_eq!(window.propose(&FRESH)?, Some(31));
+    println!("chip 31 is proposed after {} times", window.times(31));
     Ok(())
 }

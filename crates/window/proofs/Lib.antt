@@ -1,0 +1,4 @@
+pub mod Runs
+pub mod Proposed
+pub mod Figures
+pub mod Tied

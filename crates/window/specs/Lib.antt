@@ -1,0 +1,3 @@
+pub mod Window
+pub mod Count
+pub mod Plain

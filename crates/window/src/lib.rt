@@ -1,0 +1,148 @@
+// The window over the last 64 corrected positions, in 64 lent bytes, and the chip that it proposes to mark. Document 02, order 2.
+//
+// The oldest position comes first, and 255 stands where there is none yet, so that any 64 bytes are a window and nothing has to be kept
+// in step with a count.
+ghost use mathlib.Core.Path.{_≡_};
+ghost use Prim.Native.Nat.{_/_, _≤_, min};
+ghost use lib.ListN.{length, take, replicate};
+ghost use Rattle.base.specs.Base.{least};
+ghost use Rattle.answer.specs.Answer.{outcome-answer};
+ghost use Rattle.marks.specs.Mark.{card-is};
+ghost use Rattle.change.specs.Change.{positions};
+ghost use Rattle.window.specs.Window.{fresh-window, added, due-by, due, ClearWindowDone, ProposeDone};
+ghost use Rattle.window.specs.Count.{Counts};
+use answer::Outcome;
+use change::Positions;
+use marks::CardMark;
+use marks::Marks;
+
+// A position to mark, or none; or the number of the refusal.
+pub enum Proposal {
+    Chip(u8),
+    Nothing,
+    Refused(u8),
+}
+
+// A window that holds nothing.
+pub fn fresh() -> [u8; 64]
+    ensures { λ w. ⌜ w ≡ fresh-window ⌝ }
+{
+    [255; 64]
+}
+
+// Makes a window hold nothing.
+pub fn clear(w: &mut [u8; 64]) -> Outcome
+    ensures { λ r. ⌜ ClearWindowDone (outcome-answer r) (now (w .exit)) ⌝ }
+{
+    *w = fresh();
+    Outcome::Done
+}
+
+// ---- adding
+// The window and the eleven bytes one after the other; of these the 64 after the first n stay.
+fn move_on(w: &mut [u8], at: &[u8], n: usize)
+    requires { ⌜ (length (now w) ≡ 64) × (length (now at) ≡ 11) × (n ≤ 11) ⌝ }
+    ensures { λ _. ⌜ now (w .exit) ≡ added (now (w .entry)) (take n (now (at .entry))) ⌝ }
+{
+    let mut joined = [0u8; 75];
+    bytes::copy(w, &mut joined[..64]);
+    bytes::copy(at, &mut joined[64..]);
+    let end = n + 64;
+    bytes::copy(&joined[n..end], w);
+}
+
+fn at_most_11(n: u8) -> usize
+    ensures { λ r. ⌜ r ≡ min n 11 ⌝ }
+{
+    if 11 < n {
+        return 11;
+    }
+    n as usize
+}
+
+// Adds positions; as many of the oldest leave.
+pub fn add(w: &mut [u8; 64], ps: Positions)
+    ensures { λ _. ⌜ now (w .exit) ≡ added (now (w .entry)) (positions ps) ⌝ }
+{
+    let at = ps.at;
+    move_on(w, &at, at_most_11(ps.count));
+}
+
+// ---- proposing
+fn to_usize(x: u8) -> usize
+    ensures { λ r. ⌜ r ≡ x ⌝ }
+{
+    x as usize
+}
+
+// How often each position stands there, into 45 zeros.
+fn count(w: &[u8], c: &mut [u8])
+    requires { ⌜ (length (now w) ≡ 64) × (now c ≡ replicate 45 0) ⌝ }
+    ensures { λ _. ⌜ Counts (now (w .entry)) (now (c .exit)) × (now (w .exit) ≡ now (w .entry)) ⌝ }
+{
+    let mut i: usize = 0;
+    while i < w.len() {
+        let p = to_usize(w[i]);
+        if p < c.len() {
+            c[p] = c[p] + 1;
+        }
+        i = i + 1;
+    }
+}
+
+fn is_on(card: CardMark, p: u8) -> bool
+    ensures { λ t. ⌜ t ≡ card-is card (p / 9) ⌝ }
+{
+    match card {
+        CardMark::None => false,
+        CardMark::Card(j) => j == p / 9,
+    }
+}
+
+// Whether a position that stands there n times does so four times or more, and neither it nor its card is marked.
+fn is_due(n: u8, m: Marks, p: u8) -> bool
+    ensures { λ t. ⌜ t ≡ due-by n m p ⌝ }
+{
+    if n < 4 {
+        return false;
+    }
+    if marks::is_marked(m, p) {
+        return false;
+    }
+    let card = m.card;
+    !is_on(card, p)
+}
+
+// The lowest such position; 45 where there is none.
+fn lowest(w: &[u8], m: Marks) -> u8
+    requires { ⌜ length (now w) ≡ 64 ⌝ }
+    ensures { λ p. ⌜ (p ≡ least 45 (due (now (w .entry)) m)) × (now (w .exit) ≡ now (w .entry)) ⌝ }
+{
+    let mut c = [0u8; 45];
+    count(w, &mut c);
+    let mut p: u8 = 0;
+    while p < 45 {
+        let i = p as usize;
+        if is_due(c[i], m, p) {
+            return p;
+        }
+        p = p + 1;
+    }
+    45
+}
+
+// The chip to mark by what the window holds and the marks in force: the lowest position that stands there four times or more, and is
+// neither marked nor on the marked card. No mark is placed. 6, 7: the marks are not lawful.
+pub fn propose(w: &[u8; 64], m: Marks) -> Proposal
+    ensures { λ r. ⌜ ProposeDone (now (w .entry)) m r (now (w .exit)) ⌝ }
+{
+    let cause = marks::marks_cause(m);
+    if cause != 0 {
+        return Proposal::Refused(cause);
+    }
+    let p = lowest(w, m);
+    if p < 45 {
+        return Proposal::Chip(p);
+    }
+    Proposal::Nothing
+}
