@@ -132,19 +132,16 @@ class Book:
     def place_chip(self, chip):
         if chip >= BLOCK:
             return Answer(6)
-        if chip in self.chips:
-            return Answer(7)
-        if len(self.chips) == 2:
+        if len(set(self.chips) | {chip}) == 3:
             return Answer(8)
-        self.chips.append(chip)
+        if chip not in self.chips:
+            self.chips.append(chip)
         return Answer()
 
     def place_card(self, card):
         if card >= CARDS:
             return Answer(6)
-        if card == self.card:
-            return Answer(7)
-        if self.card is not None:
+        if self.card not in (None, card):
             return Answer(8)
         self.card = card
         return Answer()

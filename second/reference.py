@@ -442,13 +442,19 @@ def record_part(output, answer):
 
 
 def place_chip(marks, chip):
-    """Add a chip mark after those there.  Refusals 6, 7, 8."""
+    """Add a chip mark after those there, unless it is one of them.
+
+    Refusals 6, 7, 8.
+
+    Order 3: "Placing a mark that is already there is now accepted and changes
+    nothing", so 7 comes from the record alone, here and in place_card.
+    """
     number = lowest(marks_cause(marks), asked_cause(chip, BLOCK))
     if number:
         return Answer(number)
     now = open_marks(marks)
     if chip in now.chips:
-        return Answer(7)
+        return Answer()
     if len(now.chips) == 2:
         return Answer(8)
     marks[:] = close_marks(Marks(now.card, now.chips + (chip,)))
@@ -462,7 +468,7 @@ def place_card(marks, card):
         return Answer(number)
     now = open_marks(marks)
     if now.card is not None:
-        return Answer(7 if now.card == card else 8)
+        return Answer(0 if now.card == card else 8)
     marks[:] = close_marks(Marks(card, now.chips))
     return Answer()
 

@@ -1,4 +1,4 @@
-"""Checks of the second implementation against document 01 and orders 1 and 2.
+"""Checks of the second implementation against document 01 and orders 1 to 3.
 
 Those of reference.py and bank.py are here, those of the registers, the window
 and the lists in selftest_registers.py, selftest_window.py and selftest_lists.py.
@@ -179,16 +179,20 @@ MARK_CALLS = (
     (FRESH, ("place_chip", 44), 0, marks(255, 44)),
     (FRESH, ("place_chip", 45), 6, None),
     (FRESH, ("place_chip", 255), 6, None),
-    (marks(255, 7), ("place_chip", 7), 7, None),
+    (marks(255, 7), ("place_chip", 7), 0, marks(255, 7)),
     (marks(255, 7), ("place_chip", 3), 0, marks(255, 7, 3)),
-    (marks(255, 7, 3), ("place_chip", 3), 7, None),
+    (marks(255, 7, 3), ("place_chip", 7), 0, marks(255, 7, 3)),
+    (marks(255, 7, 3), ("place_chip", 3), 0, marks(255, 7, 3)),
+    (marks(2, 7, 3), ("place_chip", 3), 0, marks(2, 7, 3)),
     (marks(255, 7, 3), ("place_chip", 5), 8, None),
     (marks(255, 7, 3), ("place_chip", 45), 6, None),
     (marks(2, 7, 3), ("place_chip", 5), 8, None),
     (FRESH, ("place_card", 4), 0, marks(4)),
     (FRESH, ("place_card", 5), 6, None),
     (FRESH, ("place_card", 255), 6, None),
-    (marks(2, 7), ("place_card", 2), 7, None),
+    (marks(2, 7), ("place_card", 2), 0, marks(2, 7)),
+    (marks(2, 7, 3), ("place_card", 2), 0, marks(2, 7, 3)),
+    (marks(2, 7, 3), ("place_card", 0), 8, None),
     (marks(2, 7), ("place_card", 3), 8, None),
     (marks(2, 7), ("place_card", 5), 6, None),
     (marks(255, 7, 3), ("place_card", 0), 0, marks(0, 7, 3)),
@@ -202,11 +206,15 @@ MARK_CALLS = (
     (marks(3, 7, 3), ("lift_card",), 0, marks(255, 7, 3)),
     (marks(255, 7, 3), ("lift_card",), 9, None),
     (bytes((255, 2, 7, 7)), ("place_chip", 1), 7, None),
+    (bytes((255, 2, 7, 7)), ("place_chip", 7), 7, None),
+    (bytes((2, 2, 7, 7)), ("place_card", 2), 7, None),
     (bytes((255, 2, 7, 7)), ("place_chip", 45), 6, None),
     (bytes((255, 2, 7, 7)), ("place_card", 1), 7, None),
     (bytes((255, 2, 7, 7)), ("lift_chip", 7), 7, None),
     (bytes((255, 2, 7, 7)), ("lift_card",), 7, None),
     (bytes((5, 0, 255, 255)), ("place_chip", 1), 6, None),
+    (bytes((5, 2, 7, 7)), ("place_chip", 7), 6, None),
+    (bytes((5, 0, 255, 255)), ("place_card", 5), 6, None),
     (bytes((5, 0, 255, 255)), ("lift_card",), 6, None),
 )
 

@@ -74,13 +74,14 @@ COMMANDS = (
     (FRESH, (0, 0, 44), MARK_CHIP, 3, (0,), marks(255, 44)),
     (FRESH, (0, 0, 45), MARK_CHIP, 22, (0,), None),
     (FRESH, (0, 0, 255), MARK_CHIP, 22, (0,), None),
-    (marks(255, 7), (0, 0, 7), MARK_CHIP, 23, (0,), None),
+    (marks(255, 7), (0, 0, 7), MARK_CHIP, 3, (0,), marks(255, 7)),
     (marks(255, 7), (0, 0, 3), MARK_CHIP, 3, (0,), marks(255, 7, 3)),
-    (marks(255, 7, 3), (0, 0, 3), MARK_CHIP, 23, (0,), None),
+    (marks(255, 7, 3), (0, 0, 7), MARK_CHIP, 3, (0,), marks(255, 7, 3)),
+    (marks(255, 7, 3), (0, 0, 3), MARK_CHIP, 3, (0,), marks(255, 7, 3)),
     (marks(255, 7, 3), (0, 0, 4), MARK_CHIP, 24, (0,), None),
     (FRESH, (0, 0, 4), MARK_CARD, 3, (0,), marks(4)),
     (FRESH, (0, 0, 5), MARK_CARD, 22, (0,), None),
-    (marks(2), (0, 0, 2), MARK_CARD, 23, (0,), None),
+    (marks(2), (0, 0, 2), MARK_CARD, 3, (0,), marks(2)),
     (marks(2), (0, 0, 3), MARK_CARD, 24, (0,), None),
     (marks(255, 7, 3), (0, 0, 7), LIFT_CHIP, 3, (0,), marks(255, 3)),
     (marks(255, 7, 3), (0, 0, 4), LIFT_CHIP, 25, (0,), None),
@@ -157,6 +158,17 @@ def check_causes():
               (BANK[:size], bytes(out), window.START))
         if last > 15:
             check(name + ": marks", now[MARKS], record)
+
+
+def check_equal_chips():
+    """Order 3: a record with equal chips is 7, whichever mark is to be placed."""
+    for record, asked, command in (
+            (BAD7, 7, MARK_CHIP), (BAD7, 8, MARK_CHIP), (marks(2, 7, 7), 2, MARK_CARD),
+            (marks(2, 7, 7), 3, MARK_CARD), (marks(2, 7, 7), 7, MARK_CHIP)):
+        now, bank, output, recent = lent(held(record, (0, 0, asked)))
+        registers.write(now, 0, command, bank, output, recent)
+        check(f"command {command} for {asked} with {tuple(record)}",
+              (now[4], now[7], now[MARKS]), (23, WAITING | 2, record))
 
 
 # ----------------------------------------------------- addresses and refusals
@@ -272,6 +284,7 @@ def check_interrupt():
 def check_registers(rng):
     check_start()
     check_commands()
+    check_equal_chips()
     check_causes()
     check_refusals(rng)
     check_reads(rng)

@@ -130,6 +130,10 @@ class Marks(InFolder):
         self.assertEqual(self.record("--chip", 44), [255, 1, 44, 255])
         self.assertEqual(self.record("--chip", 9, "--card", 0, "--chip", 3),
                          [0, 2, 9, 3])
+        self.assertEqual(self.record("--chip", 1, "--chip", 1), [255, 1, 1, 255])
+        self.assertEqual(self.record("--chip", 1, "--chip", 2, "--chip", 1, "--chip", 2),
+                         [255, 2, 1, 2])
+        self.assertEqual(self.record("--card", 2, "--card", 2), [2, 0, 255, 255])
         self.assertEqual(self.record("--marks", "1,1,20,255"), [1, 1, 20, 255])
 
     def test_refused(self):
@@ -140,8 +144,8 @@ class Marks(InFolder):
                 (("--chip", 300), "outside its range"),
                 (("--chip", 2 ** 32), "outside its range"),
                 (("--chip", -1), "outside its range"),
-                (("--chip", 1, "--chip", 1), "marked twice"),
                 (("--chip", 1, "--chip", 2, "--chip", 3), "a third chip"),
+                (("--card", 1, "--card", 2), "a second card"),
                 (("--chip", "x"), "invalid int value"),
                 (("--marks", "5,0,255,255"), "outside its range"),
                 (("--marks", "255,2,7,7"), "marked twice"),

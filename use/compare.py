@@ -6,8 +6,9 @@ and every sort of window; then seeded lists of calls, register writes and hits,
 refused ones too, each from a cleared bank, registers at their start and an empty
 window.  Every answer is compared, and after every entry but a hit every byte of
 bank, output, registers (8 to 11 are the marks) and window, the interrupt and the
-proposal.  A run of 100 lists or more fails if no entry had a proposal, none had
-one hidden by a mark, or at none one left the window.
+proposal.  A run of 500 lists or more fails if no entry had a proposal, none had
+one hidden by a mark, at none one left the window, or none placed a chip, one of two
+chips or a card again, by call or by command.
 
 A difference is printed with its seed and the shortest list of entries found
 that shows it, and the exit is 1.
@@ -35,7 +36,7 @@ from entries import next_entries    # noqa: E402
 from reference import BLOCK, RECORD  # noqa: E402
 from seen import Seen               # noqa: E402
 
-ENOUGH = 100        # lists, to see proposals come, hidden and leave
+ENOUGH = 500        # lists, to see all that seen.py counts
 
 
 # ------------------------------------------------------- one list of the book
@@ -56,6 +57,7 @@ class Run:
     def do(self, entry):
         """One entry: a call's or hit's name and arguments, with plain bytes."""
         name, *arguments = entry
+        self.seen.to_come(self.book, name, *arguments)
         getattr(self, "_" + name)(*arguments)
         if name != "hit":              # in which the library has no part
             self._compare()

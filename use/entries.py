@@ -76,6 +76,8 @@ def mark_entry(rng, book):
                        [4, 4, 2, 2])[0]
     if name == "lift_card":
         return (name,)
+    if name == "place_card" and book.card is not None and rng.random() < 0.4:
+        return name, book.card
     if name == "place_card":
         return name, rng.choice([*range(CARDS), beyond(rng, CARDS)])
     there = list(book.chips)

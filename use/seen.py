@@ -1,12 +1,39 @@
-"""What the lists of compare.py show of proposals, counted by their entries."""
+"""What the lists of compare.py show of proposals and of marks placed again, counted
+by their entries."""
 
 from collections import Counter
 
+import registers
 import window
 
 WITH = "with a proposal"
 HIDDEN = "with one hidden by a mark"
 LEFT = "at which one left the window"
+AGAIN = {(what, how): f"that placed {what} again by {how}"
+         for what in ("a chip", "one of two chips", "a card")
+         for how in ("call", "command")}
+ALL = WITH, HIDDEN, LEFT, *AGAIN.values()
+
+
+def placed(book, name, *arguments):
+    """What an entry places: "chip" or "card", or None, and which."""
+    if name in ("place_chip", "place_card"):
+        return name[-4:], arguments[0]
+    if name == "write_register" and arguments[0] == registers.COMMAND:
+        kind = {registers.MARK_CHIP: "chip", registers.MARK_CARD: "card"}
+        return kind.get(arguments[1]), book.eight[registers.ASKED]
+    return None, None
+
+
+def again(book, name, *arguments):
+    """What an entry that is to come places although it is there, and how; or None."""
+    kind, asked = placed(book, name, *arguments)
+    how = "command" if name == "write_register" else "call"
+    if kind == "card" and asked == book.card:
+        return "a card", how
+    if kind == "chip" and asked in book.chips:
+        return "a chip" if len(book.chips) == 1 else "one of two chips", how
+    return None
 
 
 class Seen(Counter):
@@ -23,8 +50,14 @@ class Seen(Counter):
         self[LEFT] += bool(book.run) and self.proposed not in {window.NONE, *often}
         self.proposed = chip
 
+    def to_come(self, book, name, *arguments):
+        """One more entry, before it is made."""
+        made = again(book, name, *arguments)
+        if made:
+            self[AGAIN[made]] += 1
+
     def words(self):
-        return ", ".join(f"{self[what]} {what}" for what in (WITH, HIDDEN, LEFT))
+        return ", ".join(f"{self[what]} {what}" for what in ALL)
 
     def lacking(self):
-        return [what for what in (WITH, HIDDEN, LEFT) if self[what] == 0]
+        return [what for what in ALL if self[what] == 0]

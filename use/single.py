@@ -4,6 +4,8 @@ Every length of every slice, every number of a chip or card, every address and
 value of a register, the interrupt's bits, and windows of every sort.
 """
 
+import itertools
+
 import damage
 import library
 import reference as ref
@@ -146,13 +148,33 @@ def lengths_of_calls(lib, rng):
     return made
 
 
+# None, one and two chips marked; one of them twice, and that beside a card outside
+# its range.
+MARKED = (ref.FRESH, bytes((4, 1, 44, 255)), bytes((2, 2, 44, 0)),
+          bytes((2, 2, 7, 7)), bytes((5, 2, 7, 7)))
+
+
 def mark_numbers(lib):
-    """Chips and cards 0 to 600 and the widest, with none and with one marked."""
+    """Chips and cards 0 to 600 and the widest, under each of these records."""
     made = 0
     for name in ("place_chip", "lift_chip", "place_card"):
-        for marks in (ref.FRESH, bytes((4, 1, 44, 255))):
+        for marks in MARKED:
             for asked in (*range(601), *WIDE):
                 compare_call(lib, name, marks, asked)
+                made += 1
+    return made
+
+
+def mark_commands(lib):
+    """Every chip and card that byte 3 can ask for, under each of these records, with
+    no pending bit and with the one of a refusal."""
+    made = 0
+    for command in (registers.MARK_CHIP, registers.MARK_CARD, registers.LIFT_CHIP):
+        for marks in MARKED:
+            for asked, pending in itertools.product(range(256), (0, 2)):
+                held = bytes((0, 0, 0, asked, 0, 0, 0, pending)) + marks
+                compare_call(lib, "write_register", held, 0, command, bytes(BLOCK),
+                             bytes(BLOCK), window.START)
                 made += 1
     return made
 
@@ -274,7 +296,7 @@ def windows(lib, rng):
 
 def compare_all(lib, rng):
     """All of the above; gives how many calls were made."""
-    return (lengths_of_calls(lib, rng) + mark_numbers(lib)
+    return (lengths_of_calls(lib, rng) + mark_numbers(lib) + mark_commands(lib)
             + register_addresses(lib, rng) + register_lengths(lib, rng)
             + register_block_numbers(lib, rng) + interrupt_bits(lib, rng)
             + around_four(lib) + windows(lib, rng))

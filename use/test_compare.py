@@ -13,12 +13,14 @@ import library
 from kit import ARCHIVE, C_FLAGS, KIT, ROOT, InFolder, needs, run, try_run
 
 import compare as comparison     # which finds second/ for single.py too
+import misplaced
 import mistakes
+import seen
 import single
 
 COMPARE = ROOT / "use" / "compare.py"
 CHECK_PLAIN = ROOT / "use" / "rust" / "check_plain.py"
-LISTS = 150         # in which a mistake with the window must be found
+LISTS = 150         # in which a mistake must be found
 
 # A patrol of block 1 of 2 that also writes into block 0.
 IN_PATROL = """
@@ -130,12 +132,11 @@ class Compare(WithFaults):
         self.assertEqual(done.returncode, 1)
         self.assertIn("none.a is not there", done.stderr)
 
-    def test_proposals_come_are_hidden_and_leave(self):
+    def test_all_that_is_counted_comes(self):
         done = compare("--library", ARCHIVE, "--lists", comparison.ENOUGH)
         self.assertEqual(done.returncode, 0, done.stdout)
-        found = re.search(r"entries, (\d+) with a proposal, (\d+) with one hidden by "
-                          r"a mark, (\d+) at which one left the window, ", done.stdout)
-        self.assertNotIn("0", found.groups())
+        for what in seen.ALL:
+            self.assertRegex(done.stdout, rf", [1-9]\d* {what}, ")
 
     def run_of(self, lists, *entries):
         """The exit and what is printed, where each list has these entries alone."""
@@ -151,33 +152,82 @@ class Compare(WithFaults):
                 return ended.code, said.getvalue()
         return 0, said.getvalue()
 
-    def test_many_lists_without_proposals_do_not_pass(self):
+    def test_many_lists_in_which_something_lacks_do_not_pass(self):
+        def lacking(*there):
+            return 1, "500 lists, but no entry " + ", none ".join(
+                what for what in seen.ALL if what not in there) + "\n"
+
         four_times = ("hit", 20, 7), *[("get", 0, bytes(45))] * 4
-        self.assertEqual(self.run_of(100, ("report",)), (
-            1, "100 lists, but no entry with a proposal, none with one hidden by a "
-            "mark, none at which one left the window\n"))
-        self.assertEqual(self.run_of(100, *four_times), (
-            1, "100 lists, but no entry with one hidden by a mark, none at which one "
-            "left the window\n"))
-        for entries, shown in ((("report",),), "0"), (four_times, "99"):
-            ended, said = self.run_of(99, *entries)
+        card_twice = [("place_card", 2)] * 2                    # that of chip 20
+        by_command = ("write_register", 3, 2, b""), ("write_register", 0, 4, b"")
+        self.assertEqual(len(seen.ALL), 9)
+        self.assertEqual(self.run_of(500, ("report",)), lacking())
+        self.assertEqual(self.run_of(500, *four_times), lacking(seen.WITH))
+        there = seen.WITH, seen.HIDDEN, "that placed a card again by call"
+        self.assertEqual(self.run_of(500, *four_times, *card_twice), lacking(*there))
+        self.assertEqual(
+            self.run_of(500, *four_times, *card_twice, *by_command),
+            lacking(*there, "that placed a card again by command"))
+        self.assertEqual(
+            self.run_of(500, *[("place_chip", 7)] * 2, *[("place_chip", 8)] * 2),
+            lacking("that placed a chip again by call",
+                    "that placed one of two chips again by call"))
+        for entries, shown in ((("report",),), "0"), (four_times, "499"):
+            ended, said = self.run_of(499, *entries)
             self.assertEqual(ended, 0)
             self.assertIn(f" entries, {shown} with a proposal, 0 with ", said)
 
 
-class WindowMistakes(unittest.TestCase):
+class OnTheLibrary(unittest.TestCase):
     def setUp(self):
         opened = library.open_library(ARCHIVE)
         self.lib = opened.__enter__()
         self.addCleanup(opened.__exit__, None, None, None)
 
-    def found_by_lists(self, mistake):
+    def found_in_lists(self, lib):
         with contextlib.redirect_stdout(io.StringIO()) as said:
-            lib = mistakes.Mistaken(self.lib, mistake)
             agree = all(comparison.run_list(lib, 1, number, 120)
                         for number in range(LISTS))
         self.assertEqual("difference: --seed 1, list " in said.getvalue(), not agree)
         return not agree
+
+
+class MarkMistakes(OnTheLibrary):
+    def lib_with(self, mistake, by_command, pending=None):
+        return misplaced.Misplaced(self.lib, mistake, by_command, pending)
+
+    def found_by_single_calls(self, lib):
+        calls = single.mark_commands if lib.by_command else single.mark_numbers
+        try:
+            calls(lib)
+        except single.Difference:
+            return True
+        return False
+
+    def test_each_is_found(self):
+        in_lists, alone = misplaced.MISPLACED, misplaced.EQUAL_CHIPS
+        for by_command in (False, True):
+            none = self.lib_with(misplaced.NOTHING_MISPLACED, by_command)
+            self.assertFalse(self.found_by_single_calls(none))
+            self.assertFalse(self.found_in_lists(none))
+            for what, mistake in {**in_lists, **alone}.items():
+                with self.subTest(what, by_command=by_command):
+                    lib = self.lib_with(mistake, by_command)
+                    self.assertTrue(self.found_by_single_calls(lib))
+                    if what in in_lists:
+                        self.assertTrue(self.found_in_lists(lib))
+
+    def test_each_of_the_pending_bits_is_found(self):
+        for what, pending in misplaced.PENDING.items():
+            with self.subTest(what):
+                lib = self.lib_with(misplaced.NOTHING_MISPLACED, True, pending)
+                self.assertTrue(self.found_by_single_calls(lib))
+                self.assertTrue(self.found_in_lists(lib))
+
+
+class WindowMistakes(OnTheLibrary):
+    def found_by_lists(self, mistake):
+        return self.found_in_lists(mistakes.Mistaken(self.lib, mistake))
 
     def found_by_single_calls(self, mistake):
         lib = mistakes.Mistaken(self.lib, mistake)

@@ -144,9 +144,12 @@ int main(void)
     expect(t.number == LIVOMASHEN_DONE && t.clean == 3 && t.chips == 1,
            "three clean blocks and one with bad chips");
 
-    /* A third chip mark is refused, and the marks stay as they are. */
+    /* A chip that is marked already may be marked again; a third chip mark is
+     * refused.  Both leave the marks as they are. */
     expect(livomashen_place_chip(marks, sizeof marks, 0) == LIVOMASHEN_DONE,
            "chip 0 is marked");
+    expect(livomashen_place_chip(marks, sizeof marks, 0) == LIVOMASHEN_DONE,
+           "and marked again");
     expect(livomashen_place_chip(marks, sizeof marks, 5)
            == LIVOMASHEN_MARK_LIMIT, "a third chip mark is refused");
     printf("marks: card %d, count %d, chips %d and %d\n",

@@ -126,16 +126,16 @@ static inline unsigned chip_placed(const uint8_t *m, size_t len, uint32_t positi
                                    uint8_t *after)
 {
     unsigned number = lowest(mark_number(m, len), position > 44 ? 6 : 0);
-    if (number == 0 && chip_there(m, position))
-        number = 7;
-    if (number == 0 && m[1] == 2)
-        number = 8;
-    if (number == 0) {
-        memcpy(after, m, 4);
-        after[2 + m[1]] = (uint8_t)position;
-        after[1]++;
-    }
-    return number;
+    if (number != 0)
+        return number;
+    memcpy(after, m, 4);
+    if (chip_there(m, position))
+        return 0;
+    if (m[1] == 2)
+        return 8;
+    after[2 + m[1]] = (uint8_t)position;
+    after[1]++;
+    return 0;
 }
 
 static inline unsigned chip_lifted(const uint8_t *m, size_t len, uint32_t position,
@@ -157,8 +157,8 @@ static inline unsigned card_placed(const uint8_t *m, size_t len, uint32_t card,
                                    uint8_t *after)
 {
     unsigned number = lowest(mark_number(m, len), card > 4 ? 6 : 0);
-    if (number == 0 && m[0] != 255)
-        number = m[0] == card ? 7 : 8;
+    if (number == 0 && m[0] != 255 && m[0] != card)
+        number = 8;
     if (number == 0) {
         memcpy(after, m, 4);
         after[0] = (uint8_t)card;

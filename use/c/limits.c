@@ -189,6 +189,8 @@ static void mark_pairs(void)
                     m[2] = (uint8_t)first, m[3] = (uint8_t)second;
                     lend_bytes(&marks, 4, m, 4);
                     try_read();
+                    try_place_chip((uint32_t)first);
+                    try_place_chip((uint32_t)second);
                     try_lift_chip((uint32_t)second);
                 }
     lend_all();

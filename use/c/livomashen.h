@@ -31,9 +31,9 @@ extern "C" {
 
 /* The version: another MAJOR may need changes in a program that uses it. */
 #define LIVOMASHEN_VERSION_MAJOR 2
-#define LIVOMASHEN_VERSION_MINOR 0
+#define LIVOMASHEN_VERSION_MINOR 1
 #define LIVOMASHEN_VERSION_PATCH 0
-#define LIVOMASHEN_VERSION "2.0.0"
+#define LIVOMASHEN_VERSION "2.1.0"
 
 /* Sizes. */
 enum {
@@ -58,8 +58,7 @@ enum {
     LIVOMASHEN_BLOCK_NUMBER = 5,     /* block number is n or more */
     LIVOMASHEN_MARK_RANGE = 6,       /* mark record, or mark asked for, is
                                         outside its ranges or not 4 bytes */
-    LIVOMASHEN_MARK_TWICE = 7,       /* both chip marks equal, or the mark
-                                        asked for is already there */
+    LIVOMASHEN_MARK_TWICE = 7,       /* both chip marks of the record equal */
     LIVOMASHEN_MARK_LIMIT = 8,       /* third chip mark, or another card */
     LIVOMASHEN_MARK_ABSENT = 9,      /* lifting a mark that is not there */
     LIVOMASHEN_NONE = 10,            /* no record fits the block */
@@ -76,7 +75,8 @@ enum {
     LIVOMASHEN_IN_CARD = 2,          /* n bytes, in a card, marked chips and, beside a
                                         marked card, one further chip */
     LIVOMASHEN_MARKED = 3            /* no block: livomashen_last_answer gives it
-                                        where a mark was placed or lifted */
+                                        where a mark was placed or lifted, or the
+                                        one to place was already there */
 };
 
 /* A mark record is four bytes: card, count, first chip, second chip; an unused
@@ -176,8 +176,9 @@ uint64_t livomashen_report(const uint8_t *bank, size_t bank_len,
 
 /* Places or lifts a mark in a mark record: a chip by its position 0 to 44, a
  * card by its number 0 to 4; any other number is 6, however large.  Placing
- * gives 0, or 6, 7, 8; lifting 0, or 6, 7, 9.  Lifting the first of two chip
- * marks moves the second down. */
+ * gives 0, or 6, 7, 8; lifting 0, or 6, 7, 9.  Placing a mark that is already
+ * there gives 0 and changes nothing.  Lifting the first of two chip marks moves
+ * the second down. */
 uint32_t livomashen_place_chip(uint8_t *marks, size_t marks_len,
                                uint32_t position);
 uint32_t livomashen_lift_chip(uint8_t *marks, size_t marks_len,

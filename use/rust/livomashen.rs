@@ -221,7 +221,7 @@ pub fn report(bank: &[u8], marks: &[u8]) -> Result<Totals, Refusal> {
     }
 }
 
-/// Marks the chip at a position, 0 to 44.
+/// Marks the chip at a position, 0 to 44; one that is marked already stays as it is.
 pub fn place_chip(marks: &mut [u8], position: u32) -> Result<(), Refusal> {
     done(unsafe { raw::livomashen_place_chip(marks.as_mut_ptr(), marks.len(), position) })
 }
@@ -231,7 +231,7 @@ pub fn lift_chip(marks: &mut [u8], position: u32) -> Result<(), Refusal> {
     done(unsafe { raw::livomashen_lift_chip(marks.as_mut_ptr(), marks.len(), position) })
 }
 
-/// Marks a card, 0 to 4.
+/// Marks a card, 0 to 4; the one that is marked already stays as it is.
 pub fn place_card(marks: &mut [u8], card: u32) -> Result<(), Refusal> {
     done(unsafe { raw::livomashen_place_card(marks.as_mut_ptr(), marks.len(), card) })
 }

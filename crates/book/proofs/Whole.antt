@@ -3,6 +3,7 @@
 --   booked           a call, as it is seen
 --   runs-next        a command, by the call that it stands for; write-next: a register write
 --   step, whole-from one entry of any kind; any list
+--   fresh-is         at the start the state is that of the book
 --   whole            THE STATEMENT
 use Prim.Native.Nat.{ℕ, zero, suc, _/_, _%_, _<_}
 use mathlib.Core.Path.{_≡_, refl, sym, ap, ap₂, _∙_, subst}
@@ -145,6 +146,8 @@ whole-from b long σ i (e ∷ es) (s ∷ ss) (Ran.then c r) =
     let w = whole-from (n .0) (n .2) (s .after) (n .1 .after) es ss r in
     (w .0, Booked.then (n .1) (w .1))
 
+pub fresh-is : (n : ℕ) → fresh-state n ≡ state-of (fresh-book n)
+fresh-is n = ap₂ (λ (l win : List ℕ). state l (rest-of fresh-registers) win) (replicate-flat 45 n 0) (sym window-empty)
+
 pub whole : WholeList
-whole n lo hi es ss r = whole-from (fresh-book n) (each-replicate 45 n zeros refl) (fresh-state n)
-    (ap₂ (λ (l win : List ℕ). state l (rest-of fresh-registers) win) (replicate-flat 45 n 0) (sym window-empty)) es ss r
+whole n lo hi es ss r = whole-from (fresh-book n) (each-replicate 45 n zeros refl) (fresh-state n) (fresh-is n) es ss r

@@ -1,4 +1,4 @@
--- The book, and lists of calls, register writes and hits. Document 01, "The book"; demand 3, second sentence; document 02, orders 1 and 2.
+-- The book, and lists of calls, register writes and hits. Document 01, "The book"; demand 3, second sentence; document 02, orders 1 to 3.
 --
 --   Call, Entry      a call's arguments; an entry of the list: a call, a register write, or a hit
 --   Rest, State      what is kept from one entry to the next: the bank, the window, and the rest, which is the registers; the marks in force
@@ -212,7 +212,7 @@ CallSays b (patrol k) a out b′ =
 CallSays b report a out b′ =
     (out ≡ []) × (b′ ≡ b)
     × By (report-cause (size b) (marks-of b)) a (Unit {0}) (CountsEach (held-at b) (many b) (marks-of b) a)
--- "Placing adds the mark, a chip after those there. Lifting takes it out."
+-- "Placing adds the mark, a chip after those there. Lifting takes it out."; "Placing a mark that is already there .. changes nothing"
 CallSays b (mark c) a out b′ =
     (out ≡ []) × By (mark-cause (marks-of b) c) a (b′ ≡ b) ((a ≡ done) × (b′ ≡ with-marks b (marked (marks-of b) c)))
 -- "has a clear call of its own"

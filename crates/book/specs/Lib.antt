@@ -2,3 +2,4 @@ pub mod Book
 pub mod Kept
 pub mod Noted
 pub mod Possible
+pub mod Again

@@ -1,12 +1,12 @@
 -- The chip places by the count, and the record after a chip mark is placed or lifted, as the code makes it.
 --
 --   chips-many, places-many            the last case of a match on the count
---   place-first, place-second          a chip after none, after one
+--   place-new                          a chip that is not there; place-first, place-second: after none, after one
 --   lift-only, lift-first, lift-second  a marked chip that is the only one, the first of two, the second of two
 use Prim.Native.Nat.{ℕ, zero, suc}
 use mathlib.Core.Path.{_≡_, refl, sym, _∙_}
 use mathlib.Core.Bool.{true, false, false≢true, or-false}
-use mathlib.Core.List.{[], _∷_}
+use mathlib.Core.List.{[], _∷_, _++_}
 use lib.Dec.{eqb}
 use borrow.Author.Tests.{eq-eqb, ne-eqb}
 use Rattle.marks.specs.Marks.{chips-of, marked-chips, is-marked, places-in-range}
@@ -28,13 +28,15 @@ places-many (suc (suc (suc n))) a b h i j = refl
 
 -- ---- the record after a chip mark is placed or lifted
 module _ (m : Marks) (p : ℕ) where
-  pub place-first : m .count ≡ 0 → marked m (PlaceChip p) ≡ of-chips (m .card) (p ∷ [])
-  unfolding marked
-  place-first e = simp e
+  place-new : is-marked m p ≡ false → marked m (PlaceChip p) ≡ of-chips (m .card) (marked-chips m ++ (p ∷ []))
+  unfolding marked is-marked
+  place-new n = simp n
 
-  pub place-second : m .count ≡ 1 → marked m (PlaceChip p) ≡ of-chips (m .card) (m .first ∷ p ∷ [])
-  unfolding marked
-  place-second e = simp e
+  pub place-first : is-marked m p ≡ false → m .count ≡ 0 → marked m (PlaceChip p) ≡ of-chips (m .card) (p ∷ [])
+  place-first n e = place-new n ∙ simp e
+
+  pub place-second : is-marked m p ≡ false → m .count ≡ 1 → marked m (PlaceChip p) ≡ of-chips (m .card) (m .first ∷ p ∷ [])
+  place-second n e = place-new n ∙ simp e
 
   -- a marked chip that is the only one is the first
   only : m .count ≡ 1 → is-marked m p ≡ true → eqb p (m .first) ≡ true

@@ -9,16 +9,16 @@
 --   mark-causes, mark-cause-is          the number of a call is exactly the lowest of the causes that hold
 --   Can, can, mark-can                  a call is not refused exactly when these hold
 --   within                              the number, where the record is lawful and the call within its range
+--   unmarked, not-in                    a chip that is not there, as a test and as a fact
+--   room-for, placed-few                a chip that is not there has a place; the chips after one is placed are few
 --   marked-lawful                       a call that is done leaves a lawful record
 --   mark-done, mark-refused             what is learnt of a call by its number; mark-done-lawful: a lawful record stays so, done or refused
---   already-refused                     a mark that is there is 7, even where two are
 --   third-refused, card-refused         a third chip mark is 8, and another card
 --   absent-refused                      a mark to lift that is not there is 9
---   again, again-refused                a call that was done, made once more: 7 for placing, 9 for lifting
 use Prim.Native.Nat.{ℕ, zero, suc, _<_}
-use mathlib.Core.Path.{_≡_, refl, sym, ap, _∙_, subst}
+use mathlib.Core.Path.{_≡_, refl, sym, _∙_, subst}
 use mathlib.Core.Logic.{_≢_, by-cases}
-use mathlib.Core.Bool.{Bool, true, false, _&&_, _||_, not, true≢false, false≢true}
+use mathlib.Core.Bool.{Bool, true, false, _&&_, not, true≢false, false≢true}
 use mathlib.Core.List.{List, [], _∷_, _++_}
 use lib.ListN.{length}
 use native.Mathlib.Decide.{ℕ-discrete}
@@ -26,22 +26,21 @@ use native.Mathlib.Omega.{arith}
 use lib.Dec.{eqb}
 use borrow.Author.Tests.{eq-eqb, ne-eqb, lt-ltb, ltb-true, eqb-false, not-false}
 use Rattle.base.specs.Base.{if, In, is-in, Few}
-use Rattle.base.proofs.Few.{few-length}
 use Rattle.base.proofs.Lists.{in-is-in, is-in-in}
-use Rattle.base.proofs.Tests.{and-true, or-false}
+use Rattle.base.proofs.Tests.{and-true, and-yes}
 use Rattle.answer.specs.Answer.{Answer, done, refused, By}
 use Rattle.answer.specs.Cause.{Cause, cause, lowest}
-use Rattle.answer.proofs.Causes.{none-holds, first-holds, Lowest, lowest-is, by-accepted}
+use Rattle.answer.proofs.Causes.{none-holds, Lowest, lowest-is, by-accepted}
 use Rattle.marks.specs.Marks.{LawfulMarks, CardInRange, marked-chips, is-marked, in-range, two-equal, marks-cause}
 use Rattle.marks.specs.Marks.{card-byte, bytes, of-bytes, marks-in}
-use Rattle.marks.specs.Mark.{of-chips, remove, marked, card-is, some-card, asked-in-range, already, too-many, absent, mark-cause, MarkDone}
+use Rattle.marks.specs.Mark.{of-chips, insert, remove, marked, asked-in-range, too-many, absent, mark-cause, MarkDone}
 use Rattle.marks.specs.declared.CardMark.{CardMark}
 use Rattle.marks.specs.declared.CardMark.the-variants.{None, Card}
 use Rattle.marks.specs.declared.Marks.{Marks}
 use Rattle.marks.specs.declared.MarkCall.{MarkCall}
 use Rattle.marks.specs.declared.MarkCall.the-variants.{PlaceChip, LiftChip, PlaceCard, LiftCard}
 use Rattle.marks.proofs.Tests.{places-test, lawful-range, lawful-two, tests-lawful}
-use Rattle.marks.proofs.Few.{places-few, places-count, places-back, few-lawful, kept, added, added-in, removed, removed-out}
+use Rattle.marks.proofs.Few.{places-few, places-count, places-back, few-lawful, added, removed}
 
 -- ---- a record is lawful exactly when no cause is given
 pub lawful-cause : (m : Marks) → LawfulMarks m → marks-cause m ≡ 0
@@ -100,7 +99,7 @@ of-few m l = places-back (m .card) (m .count) (m .first) (m .second) (places-tes
 -- ---- the number of a call
 abbrev pub mark-causes : Marks → MarkCall → List Cause
 mark-causes m c =
-    cause 6 (not (in-range m && asked-in-range c)) ∷ cause 7 (two-equal m || already m c) ∷ cause 8 (too-many m c) ∷ cause 9 (absent m c) ∷ []
+    cause 6 (not (in-range m && asked-in-range c)) ∷ cause 7 (two-equal m) ∷ cause 8 (too-many m c) ∷ cause 9 (absent m c) ∷ []
 
 pub mark-cause-is : (m : Marks) (c : MarkCall) → Lowest (mark-cause m c) (mark-causes m c)
 unfolding mark-cause
@@ -110,44 +109,62 @@ mark-cause-is m c = lowest-is (mark-causes m c) (omega arith, (omega arith, (ome
 pub record Can (m : Marks) (c : MarkCall) : Type 0 where
   pub lawful : LawfulMarks m
   pub asked : asked-in-range c ≡ true
-  pub new : already m c ≡ false
   pub room : too-many m c ≡ false
   pub there : absent m c ≡ false
 
 pub can : (m : Marks) (c : MarkCall) → mark-cause m c ≡ 0 → Can m c
 unfolding mark-cause
 can m c e =
-    let six = none-holds 5 _ (cause 7 (two-equal m || already m c) ∷ cause 8 (too-many m c) ∷ cause 9 (absent m c) ∷ []) e in
+    let six = none-holds 5 _ (cause 7 (two-equal m) ∷ cause 8 (too-many m c) ∷ cause 9 (absent m c) ∷ []) e in
     let seven = none-holds 6 _ (cause 8 (too-many m c) ∷ cause 9 (absent m c) ∷ []) (six .1) in
     let eight = none-holds 7 _ (cause 9 (absent m c) ∷ []) (seven .1) in
     let nine = none-holds 8 _ [] (eight .1) in
     let within = and-true _ _ (not-false _ (six .0)) in
-    let single = or-false _ _ (seven .0) in
-    record { lawful = tests-lawful m (within .0) (single .0); asked = within .1; new = single .1; room = eight .0; there = nine .0 }
+    record { lawful = tests-lawful m (within .0) (seven .0); asked = within .1; room = eight .0; there = nine .0 }
 
 -- of a lawful record and a call within its range
 pub within : (m : Marks) (c : MarkCall) → LawfulMarks m → asked-in-range c ≡ true
-    → mark-cause m c ≡ lowest (cause 7 (already m c) ∷ cause 8 (too-many m c) ∷ cause 9 (absent m c) ∷ [])
+    → mark-cause m c ≡ lowest (cause 8 (too-many m c) ∷ cause 9 (absent m c) ∷ [])
 unfolding mark-cause
 within m c l h = simp (lawful-range l, lawful-two l, h)
 
 -- and so it is refused only where one of them fails
 pub mark-can : (m : Marks) (c : MarkCall) → Can m c → mark-cause m c ≡ 0
-mark-can m c h = within m c (h .lawful) (h .asked) ∙ simp (h .new, h .room, h .there)
+mark-can m c h = within m c (h .lawful) (h .asked) ∙ simp (h .room, h .there)
 
 -- ---- a call that is done leaves a lawful record
 pub unmarked : (m : Marks) (p : ℕ) → is-marked m p ≡ false → In p (marked-chips m) → ⊥
 unfolding is-marked
 unmarked m p h i = true≢false (sym (in-is-in p (marked-chips m) i) ∙ h)
 
-pub placed-few : (m : Marks) (p : ℕ) → Can m (PlaceChip p) → Few 2 (marked-chips m ++ (p ∷ []))
-placed-few m p h =
-    let room : length (marked-chips m) < 2 = omega (arith, chips-counted m (h .lawful), h .lawful .count, eqb-false (m .count) 2 (h .room)) in
-    added p (marked-chips m) (few-chips m (h .lawful)) room (ltb-true p 45 (h .asked)) (unmarked m p (h .new))
+pub not-in : (p : ℕ) (l : List ℕ) → (In p l → ⊥) → is-in p l ≡ false
+not-in p l h = go (is-in p l) refl
+  where
+    go : (t : Bool) → is-in p l ≡ t → t ≡ false
+    go true e = absurd (h (is-in-in p l e))
+    go false e = refl
+
+-- a chip to place is there, or there is room for it
+pub room-for : (m : Marks) (p : ℕ) → Can m (PlaceChip p) → is-marked m p ≡ false → length (marked-chips m) < 2
+room-for m p h n =
+    let room : too-many m (PlaceChip p) ≡ false = h .room in
+    let two : eqb (m .count) 2 ≡ false = sym (and-yes _) ∙ (simp n at room) in
+    omega (arith, chips-counted m (h .lawful), h .lawful .count, eqb-false (m .count) 2 two)
+
+pub placed-few : (m : Marks) (p : ℕ) → Can m (PlaceChip p) → Few 2 (insert p (marked-chips m))
+unfolding is-marked
+placed-few m p h = go (is-marked m p) refl
+  where
+    few : Few 2 (marked-chips m)
+    few = few-chips m (h .lawful)
+
+    go : (t : Bool) → is-marked m p ≡ t → Few 2 (if t (marked-chips m) (marked-chips m ++ (p ∷ [])))
+    go true e = few
+    go false e = added p (marked-chips m) few (room-for m p h e) (ltb-true p 45 (h .asked)) (unmarked m p e)
 
 pub marked-lawful : (m : Marks) (c : MarkCall) → mark-cause m c ≡ 0 → LawfulMarks (marked m c)
 unfolding marked
-marked-lawful m (PlaceChip p) e = let h = can m (PlaceChip p) e in few-lawful (m .card) (marked-chips m ++ (p ∷ [])) (h .lawful .card) (placed-few m p h)
+marked-lawful m (PlaceChip p) e = let h = can m (PlaceChip p) e in few-lawful (m .card) (insert p (marked-chips m)) (h .lawful .card) (placed-few m p h)
 marked-lawful m (LiftChip p) e =
     let l = can m (LiftChip p) e .lawful in
     few-lawful (m .card) (remove p (marked-chips m)) (l .card) (removed 2 p (marked-chips m) (few-chips m l))
@@ -177,10 +194,7 @@ mark-done-lawful m c a m′ l d = go (mark-cause m c) refl
     go zero e = subst LawfulMarks (sym (mark-done m c a m′ e d .1)) (marked-lawful m c e)
     go (suc n) e = subst LawfulMarks (sym (mark-refused m c a m′ n e d .1)) l
 
--- ---- the mark is there already, is one too many, or is not there
-pub already-refused : (m : Marks) (c : MarkCall) → LawfulMarks m → asked-in-range c ≡ true → already m c ≡ true → mark-cause m c ≡ 7
-already-refused m c l h e = within m c l h ∙ simp e (first-holds 7 (cause 8 (too-many m c) ∷ cause 9 (absent m c) ∷ []) tt)
-
+-- ---- the mark is one too many, or is not there
 pub third-refused : (m : Marks) (p : ℕ) → LawfulMarks m → m .count ≡ 2 → p < 45 → is-marked m p ≡ false → mark-cause m (PlaceChip p) ≡ 8
 third-refused m p l e h i = within m (PlaceChip p) l (lt-ltb p 45 h) ∙ simp (i, eq-eqb (m .count) 2 e)
 
@@ -192,48 +206,3 @@ absent-refused m (PlaceChip p) l h e = absurd (false≢true e)
 absent-refused m (LiftChip p) l h e = within m (LiftChip p) l h ∙ simp e
 absent-refused m (PlaceCard j) l h e = absurd (false≢true e)
 absent-refused m LiftCard l h e = within m LiftCard l h ∙ simp e
-
--- ---- a call that was done, made once more
-abbrev pub again : MarkCall → ℕ
-again (PlaceChip p) = 7
-again (LiftChip p) = 9
-again (PlaceCard j) = 7
-again LiftCard = 9
-
-pub not-in : (p : ℕ) (l : List ℕ) → (In p l → ⊥) → is-in p l ≡ false
-not-in p l h = go (is-in p l) refl
-  where
-    go : (t : Bool) → is-in p l ≡ t → t ≡ false
-    go true e = absurd (h (is-in-in p l e))
-    go false e = refl
-
--- the chip that was placed is there, and the one that was lifted is not
-placed-in : (m : Marks) (p : ℕ) → Can m (PlaceChip p) → is-marked (marked m (PlaceChip p)) p ≡ true
-unfolding marked is-marked
-placed-in m p h =
-    let l = marked-chips m ++ (p ∷ []) in
-    ap (is-in p) (kept (m .card) l (few-length 2 l (placed-few m p h))) ∙ in-is-in p l (added-in p (marked-chips m))
-
-lifted-out : (m : Marks) (p : ℕ) → LawfulMarks m → is-marked (marked m (LiftChip p)) p ≡ false
-unfolding marked is-marked
-lifted-out m p l =
-    let f = few-chips m l in
-    let r = remove p (marked-chips m) in
-    ap (is-in p) (kept (m .card) r (few-length 2 r (removed 2 p (marked-chips m) f))) ∙ not-in p r (removed-out 2 p (marked-chips m) f)
-
-card-placed : (m : Marks) (j : ℕ) → card-is (marked m (PlaceCard j) .card) j ≡ true
-unfolding marked
-card-placed m j = eq-eqb j j refl
-
-card-lifted : (m : Marks) → not (some-card (marked m LiftCard .card)) ≡ true
-unfolding marked
-card-lifted m = refl
-
-pub again-refused : (m : Marks) (c : MarkCall) → mark-cause m c ≡ 0 → mark-cause (marked m c) c ≡ again c
-again-refused m c e = go c (can m c e) (marked-lawful m c e)
-  where
-    go : (c : MarkCall) → Can m c → LawfulMarks (marked m c) → mark-cause (marked m c) c ≡ again c
-    go (PlaceChip p) h l = already-refused (marked m (PlaceChip p)) (PlaceChip p) l (h .asked) (placed-in m p h)
-    go (LiftChip p) h l = absent-refused (marked m (LiftChip p)) (LiftChip p) l (h .asked) (ap not (lifted-out m p (h .lawful)))
-    go (PlaceCard j) h l = already-refused (marked m (PlaceCard j)) (PlaceCard j) l (h .asked) (card-placed m j)
-    go LiftCard h l = absent-refused (marked m LiftCard) LiftCard l refl (card-lifted m)

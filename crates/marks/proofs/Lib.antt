@@ -2,7 +2,9 @@ pub mod Chips
 pub mod Tests
 pub mod Few
 pub mod Laws
+pub mod Again
 pub mod Gives
 pub mod Plain
+pub mod Numbers
 pub mod Tied
 pub mod Witnesses

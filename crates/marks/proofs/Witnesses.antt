@@ -4,7 +4,7 @@
 --   records                 the numbers of records alone
 --   on-fresh, on-two, ..    the numbers of calls on a record
 --   after                   the bytes after calls that are done
---   answers                 a call that is done, and one that is refused
+--   answers                 calls that are done, one of which changes nothing, and calls that are refused
 use mathlib.Core.Path.{_≡_, refl}
 use mathlib.Core.List.{[], _∷_, map}
 use Rattle.answer.specs.Answer.{done, refused}
@@ -33,26 +33,30 @@ pub on-fresh : map (mark-cause fresh-marks)
 unfolding mark-cause in-range two-equal is-marked
 on-fresh = refl
 
-pub on-two : map (mark-cause two) (PlaceChip 9 ∷ PlaceChip 44 ∷ PlaceChip 45 ∷ LiftChip 0 ∷ LiftChip 9 ∷ LiftChip 1 ∷ [])
-    ≡ 7 ∷ 8 ∷ 6 ∷ 0 ∷ 0 ∷ 9 ∷ []
+pub on-two : map (mark-cause two) (PlaceChip 0 ∷ PlaceChip 9 ∷ PlaceChip 44 ∷ PlaceChip 45 ∷ LiftChip 0 ∷ LiftChip 9 ∷ LiftChip 1 ∷ [])
+    ≡ 0 ∷ 0 ∷ 8 ∷ 6 ∷ 0 ∷ 0 ∷ 9 ∷ []
 unfolding of-bytes mark-cause in-range two-equal is-marked
 on-two = refl
 
-pub on-carded : map (mark-cause carded) (PlaceCard 0 ∷ PlaceCard 1 ∷ PlaceCard 5 ∷ LiftCard ∷ []) ≡ 7 ∷ 8 ∷ 6 ∷ 0 ∷ []
+pub on-carded : map (mark-cause carded) (PlaceCard 0 ∷ PlaceCard 1 ∷ PlaceCard 5 ∷ LiftCard ∷ []) ≡ 0 ∷ 8 ∷ 6 ∷ 0 ∷ []
 unfolding of-bytes mark-cause in-range two-equal
 on-carded = refl
 
-pub on-same : map (mark-cause same) (PlaceChip 1 ∷ PlaceChip 45 ∷ LiftChip 0 ∷ PlaceCard 0 ∷ LiftCard ∷ []) ≡ 7 ∷ 6 ∷ 7 ∷ 7 ∷ 7 ∷ []
+pub on-same : map (mark-cause same) (PlaceChip 0 ∷ PlaceChip 1 ∷ PlaceChip 45 ∷ LiftChip 0 ∷ PlaceCard 0 ∷ LiftCard ∷ [])
+    ≡ 7 ∷ 7 ∷ 6 ∷ 7 ∷ 7 ∷ 7 ∷ []
 unfolding of-bytes mark-cause in-range two-equal is-marked
 on-same = refl
 
 pub after : (bytes (marked fresh-marks (PlaceChip 44)) ≡ 255 ∷ 1 ∷ 44 ∷ 255 ∷ [])
+    × (bytes (marked two (PlaceChip 9)) ≡ 255 ∷ 2 ∷ 0 ∷ 9 ∷ [])
     × (bytes (marked two (LiftChip 0)) ≡ 255 ∷ 1 ∷ 9 ∷ 255 ∷ [])
     × (bytes (marked two (PlaceCard 4)) ≡ 4 ∷ 2 ∷ 0 ∷ 9 ∷ [])
     × (bytes (marked carded LiftCard) ≡ 255 ∷ 0 ∷ 255 ∷ 255 ∷ [])
+    × (bytes (marked carded (PlaceCard 0)) ≡ 0 ∷ 0 ∷ 255 ∷ 255 ∷ [])
 unfolding of-bytes marked
-after = (refl, refl, refl, refl)
+after = (refl, refl, refl, refl, refl, refl)
 
-pub answers : MarkDone fresh-marks (PlaceChip 44) done (marked fresh-marks (PlaceChip 44)) × MarkDone two (PlaceChip 9) (refused 7) two
-unfolding MarkDone mark-cause of-bytes in-range two-equal is-marked
-answers = ((refl, refl), (refl, refl))
+pub answers : MarkDone fresh-marks (PlaceChip 44) done (marked fresh-marks (PlaceChip 44)) × MarkDone two (PlaceChip 9) done two
+    × MarkDone two (PlaceChip 44) (refused 8) two × MarkDone same (PlaceChip 0) (refused 7) same
+unfolding MarkDone mark-cause marked of-bytes in-range two-equal is-marked
+answers = ((refl, refl), (refl, refl), (refl, refl), (refl, refl))

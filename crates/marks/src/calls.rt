@@ -4,11 +4,10 @@ use super::MarkCall;
 use super::Marks;
 use super::lawful;
 ghost use mathlib.Core.Path.{_≡_};
-ghost use mathlib.Core.Bool.{true, not, _&&_, _||_};
+ghost use mathlib.Core.Bool.{true, not, _&&_};
 ghost use mathlib.Core.List.{[], _∷_};
-ghost use Prim.Native.Nat.{_<_};
-ghost use Rattle.marks.specs.Marks.{in-range, two-equal, is-marked};
-ghost use Rattle.marks.specs.Mark.{of-chips, marked, card-is, some-card, asked-in-range, already, too-many, absent, mark-cause};
+ghost use Rattle.marks.specs.Marks.{in-range, is-marked};
+ghost use Rattle.marks.specs.Mark.{of-chips, marked, card-is, some-card, asked-in-range, too-many, absent, mark-cause};
 ghost use Rattle.marks.specs.declared.MarkCall.the-variants.{PlaceChip, LiftChip};
 
 pub(crate) fn wide(x: u8) -> u32
@@ -58,28 +57,15 @@ fn asked_in_range(c: MarkCall) -> bool
     }
 }
 
-// The mark to place is there.
-fn already(m: Marks, c: MarkCall) -> bool
-    ensures { λ r. ⌜ r ≡ already m c ⌝ }
-{
-    let card = m.card;
-    match c {
-        MarkCall::PlaceChip(p) => has_chip(m, p),
-        MarkCall::LiftChip(_) => false,
-        MarkCall::PlaceCard(j) => card_is(card, j),
-        MarkCall::LiftCard => false,
-    }
-}
-
-// A third chip, or a card beside a card.
+// A third chip, or another card while one is marked. A mark that is there is neither.
 fn too_many(m: Marks, c: MarkCall) -> bool
     ensures { λ r. ⌜ r ≡ too-many m c ⌝ }
 {
     let card = m.card;
     match c {
-        MarkCall::PlaceChip(_) => m.count == 2,
+        MarkCall::PlaceChip(p) => m.count == 2 && !has_chip(m, p),
         MarkCall::LiftChip(_) => false,
-        MarkCall::PlaceCard(_) => some_card(card),
+        MarkCall::PlaceCard(j) => some_card(card) && !card_is(card, j),
         MarkCall::LiftCard => false,
     }
 }
@@ -104,18 +90,16 @@ fn outside(m: Marks, c: MarkCall) -> bool
     !lawful::in_range(m) || !asked_in_range(c)
 }
 
-// Two marks are equal, or would be.
-fn twice(m: Marks, c: MarkCall) -> bool
-    ensures { λ r. ⌜ r ≡ two-equal m || already m c ⌝ }
-{
-    lawful::two_equal(m) || already(m, c)
-}
-
-// 0 where the call is not refused, else the number of its refusal: a chip that is marked already is 7 even where two are.
+// 0 where the call is not refused, else the number of its refusal: 7 is the record's own.
 pub(crate) fn mark_cause(m: Marks, c: MarkCall) -> u8
     ensures { λ r. ⌜ r ≡ mark-cause m c ⌝ }
 {
-    lawful::lowest(outside(m, c), twice(m, c), too_many(m, c), absent(m, c))
+    lawful::lowest(
+        outside(m, c),
+        lawful::two_equal(m),
+        too_many(m, c),
+        absent(m, c),
+    )
 }
 
 pub(crate) fn no_chip(card: CardMark) -> Marks
@@ -140,11 +124,14 @@ fn one_chip(card: CardMark, p: u8) -> Marks
     }
 }
 
-// Chip p after the chips there. The count has been looked at, so there is a place for it.
+// Chip p after the chips there, unless it is one of them. As nothing refuses the call, a chip that is not there has a place.
 fn with_chip(m: Marks, p: u8) -> Marks
-    requires { ⌜ m .count < 2 ⌝ }
+    requires { ⌜ mark-cause m (PlaceChip p) ≡ 0 ⌝ }
     ensures { λ r. ⌜ r ≡ marked m (PlaceChip p) ⌝ }
 {
+    if has_chip(m, wide(p)) {
+        return m;
+    }
     let card = m.card;
     if m.count == 0 {
         return one_chip(card, p);

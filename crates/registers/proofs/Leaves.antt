@@ -1,9 +1,9 @@
--- What a register write leaves, in plain words: a command, and a write to another byte.
+-- What a register write leaves, in plain words: a command, one that places a mark which is there, and a write to another byte.
 --
 --   one-bit, two-bit   the bit that a command sets
---   commands-leave, stores-leave
+--   commands-leave, command-again, again-figures, stores-leave
 use Prim.Native.Nat.{ℕ, zero, suc, _+_, _*_, _%_, _^_, _≤_, _<_}
-use mathlib.Core.Path.{_≡_, refl, sym, ap, _∙_, subst}
+use mathlib.Core.Path.{_≡_, refl, sym, ap, ap₂, _∙_, subst}
 use mathlib.Core.Logic.{_≢_, _⊎_, inl, inr}
 use mathlib.Core.Bool.{Bool, false, _||_}
 use mathlib.Core.List.{List, [], _∷_}
@@ -17,14 +17,20 @@ use borrow.Author.Tests.{eq-eqb, ne-eqb}
 use Rattle.base.specs.Base.{if, In}
 use Rattle.answer.specs.Answer.{Answer, number, done, clean, in-chips, in-card, counted, refused, refused-card}
 use Rattle.answer.proofs.Causes.{by-accepted}
+use Rattle.marks.specs.Marks.{LawfulMarks, of-bytes}
 use Rattle.marks.specs.declared.Marks.{Marks}
-use Rattle.registers.specs.Registers.{register, is-set, without-bits}
+use Rattle.marks.specs.declared.MarkCall.the-variants.{PlaceChip}
+use Rattle.marks.proofs.Again.{mark-again}
+use Rattle.registers.specs.Registers.{register-bytes, register, is-set, with-bits, without-bits}
 use Rattle.registers.specs.Write.{command-of, Runs, answer-byte, detail-byte, pending-bit, ran, stored, write-cause, WriteDone}
-use Rattle.registers.specs.Plain.{answer-in, CommandLeaves, CommandsLeave}
+use Rattle.registers.specs.Plain.{answer-in, CommandLeaves, CommandsLeave, CommandAgain, AgainFigures}
 use Rattle.registers.specs.Plain.{StoresLeave}
 use Rattle.registers.specs.declared.Registers.{Registers}
+use Rattle.registers.specs.declared.Command.{Command}
+use Rattle.registers.specs.declared.Command.the-variants.{Mark}
 use Rattle.registers.proofs.Digits.{with-at, without-at}
 use Rattle.registers.proofs.Commands.{Comes, runs-come, Eleven, runs-eleven, refused-keeps}
+use Rattle.registers.proofs.Writes.{known-0}
 use Rattle.registers.proofs.Plain.{write-numbers}
 
 -- ---- the registers after a command
@@ -102,6 +108,39 @@ commands-leave r v bank out win x r′ bank′ out′ win′ z w =
 
         second : (i : ℕ) → number a ≢ 0 → is-set i (pending-bit a) ≡ eqb i 1
         second i q = ap (is-set i) (h .bit ∙ ap (λ (t : Bool). if t 1 2) (ne-eqb (number a) 0 q)) ∙ two-bit i
+
+-- ---- the registers after a command that places a mark which is there
+pub command-again : CommandAgain
+unfolding WriteDone
+command-again r v c bank out win x r′ bank′ out′ win′ l e i w =
+    let written = by-accepted (write-cause r 0 v) x _ _ (known-0 r v (Mark c) e refl) w in
+    let d = written .1 in
+    let call = subst (λ (y : Command). Runs (r .marks) y bank out win (d .0) (d .1) bank′ out′ win′) e (d .2) in
+    let h = mark-again (r .marks) c (d .0) (d .1) l i (call .0) in
+    let is : r′ ≡ ran r v done (r .marks) = d .3 ∙ ap₂ (ran r v) (h .0) (h .1) in
+    rw is (
+      written .0,
+      refl,
+      refl,
+      λ j. with-at j (register r 7) 1 ∙ ap (λ (t : Bool). is-set j (register r 7) || t) (one-bit j),
+      call .1,
+      call .2,
+      call .3,
+    )
+
+pub again-figures : AgainFigures
+unfolding of-bytes command-of with-bits
+again-figures bank out win x r′ bank′ out′ win′ w =
+    ap register-bytes (command-again _ 3 (PlaceChip 44) bank out win x r′ bank′ out′ win′ lawful refl (inl refl) w .1)
+  where
+    lawful : LawfulMarks (of-bytes (255 ∷ 1 ∷ 44 ∷ 255 ∷ []))
+    lawful = record {
+      card = tt;
+      count = omega arith;
+      first = inl (omega arith, omega arith);
+      second = inr (omega arith, refl);
+      differ = λ e. absurd (omega (arith, e));
+    }
 
 -- ---- the registers after a write to another byte
 pub stores-leave : StoresLeave

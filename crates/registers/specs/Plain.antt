@@ -7,6 +7,7 @@
 --   answer-in           the answer that bytes 4 and 5 tell; last-answer: that of the registers; AnswersBack: it is the command's own
 --   RefusedKeeps        a refused command changes only registers
 --   CommandLeaves       what a command does: the call's answer, its marks, bank, output and window; which registers it leaves, and which bit it sets
+--   CommandAgain         what a command does that places a mark which is there: order 3; AgainFigures: in figures
 --   StoreLeaves         what a write to another byte does
 --   ReadNumbers         when a read is refused, and what it finds
 --   but-card-registers  the registers, but for the card with 11; WriteDecided: two outcomes of a write agree
@@ -20,11 +21,13 @@ use lib.Dec.{eqb}
 use lib.ListN.{length, getD, set}
 use Rattle.base.specs.Base.{if, In}
 use Rattle.answer.specs.Answer.{Answer, done, clean, in-chips, in-card, counted, refused, refused-card, number}
-use Rattle.marks.specs.Marks.{bytes, fresh-marks}
+use Rattle.marks.specs.Marks.{bytes, of-bytes, fresh-marks, LawfulMarks}
+use Rattle.marks.specs.Mark.{Already}
 use Rattle.marks.specs.declared.Marks.{Marks}
+use Rattle.marks.specs.declared.MarkCall.{MarkCall}
 use Rattle.marks.specs.declared.MarkCall.the-variants.{PlaceChip, LiftChip, PlaceCard, LiftCard}
 use Rattle.registers.specs.Registers.{register-bytes, registers-in, register, fresh-registers, is-set, with-bits, without-bits, raised, Raised}
-use Rattle.registers.specs.Write.{command-of, write-cause, Runs, answer-byte, detail-byte, pending-bit, WriteDone, read-value}
+use Rattle.registers.specs.Write.{command-of, write-cause, Runs, answer-byte, detail-byte, pending-bit, ran, WriteDone, read-value}
 use Rattle.registers.specs.declared.Registers.{Registers}
 use Rattle.registers.specs.declared.Command.{Command}
 use Rattle.registers.specs.declared.Command.the-variants.{Get, Patrol, Mark}
@@ -113,6 +116,19 @@ pub record CommandLeaves (r : Registers) (v : ℕ) (bank out w : List ℕ) (r′
 abbrev pub CommandsLeave : Type 0
 CommandsLeave = (r : Registers) (v : ℕ) (bank out w : List ℕ) (x : Answer) (r′ : Registers) (bank′ out′ w′ : List ℕ) → write-cause r 0 v ≡ 0
     → WriteDone r 0 v bank out w x r′ bank′ out′ w′ → CommandLeaves r v bank out w r′ bank′ out′ w′
+
+-- order 3: "Placing a mark that is already there is now accepted and changes nothing .. The register command sets bit 0."; it answers 3
+abbrev pub CommandAgain : Type 0
+CommandAgain = (r : Registers) (v : ℕ) (c : MarkCall) (bank out w : List ℕ) (x : Answer) (r′ : Registers) (bank′ out′ w′ : List ℕ)
+    → LawfulMarks (r .marks) → command-of r v ≡ Mark c → Already (r .marks) c → WriteDone r 0 v bank out w x r′ bank′ out′ w′
+    → (x ≡ done) × (r′ ≡ ran r v done (r .marks)) × (register r′ 4 ≡ 3)
+    × ((i : ℕ) → is-set i (register r′ 7) ≡ (is-set i (register r 7) || eqb i 0)) × (bank′ ≡ bank) × (out′ ≡ out) × (w′ ≡ w)
+
+-- chip 44 is marked, and asked for in byte 3; bit 1 of byte 7 is set, and stays
+abbrev pub AgainFigures : Type 0
+AgainFigures = (bank out w : List ℕ) (x : Answer) (r′ : Registers) (bank′ out′ w′ : List ℕ)
+    → WriteDone (record { front = 0 ∷ 3 ∷ 1 ∷ 44 ∷ 0 ∷ 0 ∷ 0 ∷ 2 ∷ []; marks = of-bytes (255 ∷ 1 ∷ 44 ∷ 255 ∷ []) }) 0 3 bank out w x r′ bank′ out′ w′
+    → register-bytes r′ ≡ 3 ∷ 3 ∷ 1 ∷ 44 ∷ 3 ∷ 0 ∷ 0 ∷ 3 ∷ 255 ∷ 1 ∷ 44 ∷ 255 ∷ []
 
 -- a write to another byte: that byte alone is changed
 pub record StoreLeaves (r : Registers) (a v : ℕ) (bank out w : List ℕ) (r′ : Registers) (bank′ out′ w′ : List ℕ) : Type 0 where

@@ -18,7 +18,7 @@ pub enum Refusal {
     BlockNumber,
     /// The mark record or the mark asked for is outside its ranges.
     MarkRange,
-    /// Both chip marks are equal, or the mark asked for is already there.
+    /// Both chip marks of the record are equal.
     MarkTwice,
     /// A third chip mark, or another card while one is marked.
     MarkLimit,
@@ -95,7 +95,7 @@ impl fmt::Display for Refusal {
             Refusal::BankLength => "the bank is not 1 to 1,024 blocks of 45 bytes",
             Refusal::BlockNumber => "there is no block of this number",
             Refusal::MarkRange => "a mark is outside its range",
-            Refusal::MarkTwice => "a mark is there twice, or already there",
+            Refusal::MarkTwice => "one chip is marked twice in the mark record",
             Refusal::MarkLimit => "a third chip mark, or a second card mark",
             Refusal::MarkAbsent => "the mark to lift is not there",
             Refusal::None => "no record fits the block",

@@ -53,7 +53,7 @@ pub mod pending {
 pub enum Said {
     /// A get or patrol.
     Corrected(Corrected),
-    /// A mark was placed or lifted.
+    /// A mark was placed or lifted, or the one to place was already there.
     Marked,
 }
 

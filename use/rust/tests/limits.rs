@@ -168,10 +168,8 @@ fn placing_and_lifting() {
     assert_eq!(livomashen::place_chip(&mut marks, 44), Ok(()));
     assert_eq!(livomashen::place_chip(&mut marks, 3), Ok(()));
     assert_eq!(marks, [255, 2, 44, 3]);
-    assert_eq!(
-        livomashen::place_chip(&mut marks, 3),
-        Err(Refusal::MarkTwice)
-    );
+    assert_eq!(livomashen::place_chip(&mut marks, 44), Ok(()));
+    assert_eq!(livomashen::place_chip(&mut marks, 3), Ok(()));
     assert_eq!(
         livomashen::place_chip(&mut marks, 4),
         Err(Refusal::MarkLimit)
@@ -182,10 +180,9 @@ fn placing_and_lifting() {
         Err(Refusal::MarkRange)
     );
     assert_eq!(livomashen::place_card(&mut marks, 4), Ok(()));
-    assert_eq!(
-        livomashen::place_card(&mut marks, 4),
-        Err(Refusal::MarkTwice)
-    );
+    assert_eq!(livomashen::place_card(&mut marks, 4), Ok(()));
+    assert_eq!(livomashen::place_chip(&mut marks, 3), Ok(()));
+    assert_eq!(marks, [4, 2, 44, 3]);
     assert_eq!(
         livomashen::place_card(&mut marks, 0),
         Err(Refusal::MarkLimit)

@@ -189,6 +189,16 @@ fn commands_and_calls_on_one_mark_record() {
     );
     assert_eq!(registers.marks(), [3, 2, 44, 3]);
     assert_eq!(registers.last_answer(), Some(Ok(Said::Marked)));
+    // What is marked already may be marked again, by one and by the other.
+    for again in [command::MARK_CHIP, command::MARK_CARD] {
+        assert_eq!(write(&mut registers, at::PENDING, 255), Ok(()));
+        assert_eq!(registers.bytes()[7], 0);
+        assert_eq!(write(&mut registers, at::COMMAND, again), Ok(()));
+        assert_eq!(registers.last_answer(), Some(Ok(Said::Marked)));
+        assert_eq!(registers.bytes()[7], pending::DONE);
+    }
+    assert_eq!(livomashen::place_chip(registers.marks_mut(), 44), Ok(()));
+    assert_eq!(registers.marks(), [3, 2, 44, 3]);
     assert_eq!(livomashen::lift_card(registers.marks_mut()), Ok(()));
     assert_eq!(
         write(&mut registers, at::COMMAND, command::LIFT_CARD),

@@ -7,7 +7,7 @@ use lib.Dec.{ltb}
 use mir.Val.{Fits}
 use mir.Syntax.{w8}
 use borrow.Author.Needs.{needs}
-use borrow.Author.Tests.{ltb-true, eqb-false, not-false}
+use borrow.Author.Tests.{ltb-true, not-false}
 use Rattle.marks.specs.Mark.{mark-cause, marked}
 use Rattle.marks.specs.declared.Marks.{Marks}
 use Rattle.marks.specs.declared.MarkCall.{MarkCall}
@@ -26,10 +26,7 @@ cast-with-chip : tie.Need-cast-with-chip
 cast-with-chip c = let s = c .before .before .before in byte _ 45 (case _ _ _ (c .before .c .given .1) (s .pre) .asked) (omega arith)
 
 with-chip-requires : tie.Need-with-chip-requires
-with-chip-requires c κs =
-    let s = c .before .before .before in
-    let h = case _ _ _ (c .before .c .given .1) (s .pre) in
-    omega (arith, h .lawful .count, eqb-false (s .args .m .count) 2 (h .room))
+with-chip-requires c κs = let s = c .before .before .before in sym (ap (mark-cause _) (c .before .c .given .1)) ∙ s .pre
 
 cast-without-chip : tie.Need-cast-without-chip
 cast-without-chip c = let s = c .before .before .before in byte _ 45 (case _ _ _ (c .before .c2 .given .1) (s .pre) .asked) (omega arith)

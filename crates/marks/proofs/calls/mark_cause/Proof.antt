@@ -11,7 +11,7 @@ returns c =
     let many = c .before .before in
     let equal = many .before in
     c .lowest .ensures
-    ∙ simp (equal .before .outside .ensures, equal .twice .ensures, many .too-many .ensures, c .before .absent .ensures)
+    ∙ simp (equal .before .outside .ensures, equal .two-equal .ensures, many .too-many .ensures, c .before .absent .ensures)
 
 pub mark-cause-spec : {M : Type 1} → statement M
 mark-cause-spec =
