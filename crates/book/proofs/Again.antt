@@ -2,29 +2,33 @@
 --
 --   last-from   the state after a list, from any book on
 --   lawful-call, lawful-write, lawful-entry   an entry leaves a lawful mark record; lawful-run: and a list
---   same-call, same-write   a call, and a command, that places a mark which is there; left-there: one that was placed is there
+--   same-call, same-write   a call, and a command, that places a mark which is there; done-there, there-by: one that was placed is there
 --   last-of-book, lawful-always, call-again, write-again, placed-twice   THE STATEMENTS
 use Prim.Native.Nat.{ℕ, zero, suc}
 use mathlib.Core.Path.{_≡_, refl, sym, ap, _∙_, subst}
+use mathlib.Core.Logic.{_≢_, inl, inr}
 use mathlib.Core.Bool.{true}
 use mathlib.Core.List.{List, [], _∷_}
 use native.Mathlib.Omega.{arith}
 use Rattle.answer.specs.Answer.{Answer, done, refused, number, By}
+use Rattle.answer.proofs.Causes.{by-accepted}
 use Rattle.marks.specs.Marks.{LawfulMarks}
-use Rattle.marks.specs.Mark.{mark-cause, places, Already}
+use Rattle.marks.specs.Mark.{mark-cause, MarkDone, places, Already}
 use Rattle.marks.specs.declared.Marks.{Marks}
 use Rattle.marks.specs.declared.MarkCall.{MarkCall}
 use Rattle.marks.proofs.Laws.{mark-done-lawful, mark-done, mark-refused}
 use Rattle.marks.proofs.Again.{placed-there, mark-again}
-use Rattle.registers.specs.Write.{command-of, Runs, ran, write-cause, Writes, WriteDone}
+use Rattle.registers.specs.Registers.{register}
+use Rattle.registers.specs.Write.{command-of, Runs, answer-byte, write-cause, Writes, WriteDone}
 use Rattle.registers.specs.declared.Registers.{Registers}
 use Rattle.registers.specs.declared.Command.{Command}
 use Rattle.registers.specs.declared.Command.the-variants.{Get, Patrol, Mark, Unknown}
+use Rattle.registers.proofs.Writes.{known-0}
 use Rattle.registers.proofs.Leaves.{command-again}
 use Rattle.book.specs.Book.{Call, clear, put, get, patrol, report, mark, clear-window, Entry, call, write, hit}
-use Rattle.book.specs.Book.{State, Said, says, nothing-said, Seen, state, seen, rest-of, in-force, fresh-state, CallDone, EntryDone, Ran}
+use Rattle.book.specs.Book.{State, Said, says, nothing-said, Seen, seen, in-force, fresh-state, CallDone, EntryDone, Ran}
 use Rattle.book.specs.Book.{Book, fresh-book, state-of, Booked}
-use Rattle.book.specs.Again.{last-state, after-list, LastOfBook, LawfulAlways, CallAgain, WriteAgain, PlacedTwice}
+use Rattle.book.specs.Again.{last-state, after-list, told-done, LastOfBook, LawfulAlways, CallAgain, WriteAgain, PlacedBy, PlacedTwice}
 use Rattle.book.proofs.OneHit.{fresh-lawful}
 use Rattle.book.proofs.Whole.{fresh-is}
 
@@ -99,7 +103,7 @@ call-again n es ss w c i s d = same-call (after-list n ss) c s (lawful-always n 
 
 pub same-write : (σ : State) (c : MarkCall) (v : ℕ) (out : List ℕ) (s : Seen) → Lawful σ → Already (in-force (σ .rest)) c
     → command-of (σ .rest .registers) v ≡ Mark c → EntryDone σ (write 0 v out) s
-    → s ≡ seen (says done) out (state (σ .bank) (rest-of (ran (σ .rest .registers) v done (in-force (σ .rest)))) (σ .window))
+    → s ≡ told-done σ v out
 same-write σ c v out s l i q (x, r′, bank′, out′, win′, w, e) =
     let h = command-again (σ .rest .registers) v c (σ .bank) out (σ .window) x r′ bank′ out′ win′ l q i w in
     rw (h .0, h .1, h .4, h .5, h .6) at e
@@ -108,27 +112,40 @@ pub write-again : WriteAgain
 write-again n es ss w c i v q out s d = same-write (after-list n ss) c v out s (lawful-always n es ss w) i q d
 
 -- ---- a mark that was placed
-abbrev said-by : Said → Answer
+said-by : Said → Answer
 said-by (says a) = a
 said-by nothing-said = refused 0
 
--- a call that placed it left it there
-left-there : (σ : State) (c : MarkCall) (s : Seen) → places c ≡ true → CallDone σ (mark c) s → s .said ≡ says done → Already (in-force (s .after .rest)) c
-left-there σ c s p (a, m′, w, e) q = go (mark-cause m c) refl
+-- where the call was not refused, the mark is there
+done-there : (m : Marks) (c : MarkCall) (a : Answer) (m′ : Marks) → places c ≡ true → MarkDone m c a m′ → ((k : ℕ) → a ≢ refused (suc k)) → Already m′ c
+done-there m c a m′ p w not-refused = go (mark-cause m c) refl
   where
-    m : Marks
-    m = in-force (σ .rest)
+    go : (k : ℕ) → mark-cause m c ≡ k → Already m′ c
+    go zero z = subst (λ (y : Marks). Already y c) (sym (mark-done m c a m′ z w .1)) (placed-there m c p z)
+    go (suc k) z = absurd (not-refused k (mark-refused m c a m′ k z w .0))
 
-    is-done : a ≡ done
-    is-done = ap said-by (sym (ap (λ (x : Seen). x .said) e) ∙ q)
+there-by : (σ : State) (c : MarkCall) (s : Seen) → places c ≡ true → PlacedBy σ c s → Already (in-force (s .after .rest)) c
+unfolding said-by WriteDone
+there-by σ c s p (inl ((a, m′, w, e), q)) =
+    let is : a ≡ done = ap said-by (sym (ap (λ (x : Seen). x .said) e) ∙ q) in
+    subst (λ (x : Seen). Already (in-force (x .after .rest)) c) (sym e)
+    (done-there (in-force (σ .rest)) c a m′ p w (λ k z. omega (arith, ap number (sym z ∙ is))))
+there-by σ c s p (inr (v, out, q, (x, r′, bank′, out′, win′, w, e), four)) =
+    let r = σ .rest .registers in
+    let d = by-accepted (write-cause r 0 v) x _ _ (known-0 r v (Mark c) q refl) w .1 in
+    let runs = subst (λ (y : Command). Runs (r .marks) y (σ .bank) out (σ .window) (d .0) (d .1) bank′ out′ win′) q (d .2) in
+    let told : answer-byte (d .0) ≡ 3 =
+    sym (ap (λ (y : Registers). register y 4) (d .3)) ∙ sym (ap (λ (y : Seen). register (y .after .rest .registers) 4) e) ∙ four in
+    subst (λ (y : Seen). Already (in-force (y .after .rest)) c) (sym e)
+    (subst (λ (y : Registers). Already (y .marks) c) (sym (d .3))
+    (done-there (r .marks) c (d .0) (d .1) p (runs .0) (λ k z. omega (arith, ap answer-byte (sym z) ∙ told))))
 
-    go : (k : ℕ) → mark-cause m c ≡ k → Already (in-force (s .after .rest)) c
-    go zero z =
-        subst (λ (x : Seen). Already (in-force (x .after .rest)) c) (sym e)
-        (subst (λ (y : Marks). Already y c) (sym (mark-done m c a m′ z w .1)) (placed-there m c p z))
-    go (suc k) z = absurd (omega (arith, ap number (sym (mark-refused m c a m′ k z w .0) ∙ is-done)))
+entry-by : (σ : State) (c : MarkCall) (s : Seen) → Lawful σ → PlacedBy σ c s → Lawful (s .after)
+entry-by σ c s l (inl (d, q)) = lawful-call σ l (mark c) s d
+entry-by σ c s l (inr (v, out, q, d, four)) = lawful-entry σ (write 0 v out) s l d
 
 pub placed-twice : PlacedTwice
-placed-twice n es ss w c p s t d q f =
-    let σ = after-list n ss in
-    same-call (s .after) c t (lawful-call σ (lawful-always n es ss w) (mark c) s d) (left-there σ c s p d q) f
+placed-twice n es ss w c p s d =
+    let l = entry-by (after-list n ss) c s (lawful-always n es ss w) d in
+    let there = there-by (after-list n ss) c s p d in
+    (there, (λ t f. same-call (s .after) c t l there f), λ v q out t f. same-write (s .after) c v out t l there q f)

@@ -73,4 +73,12 @@ two-of-us n p h lent out s t u v (Ran.then d₁ (Ran.then d₂ (Ran.then d₃ (R
       ap (λ (x : Seen). x .said) e₄,
       ap (λ (x : Seen). register (x .after .rest .registers) 4) e₄,
       ap (λ (x : Seen). in-force (x .after .rest)) e₄,
+      inl (d₁, ap (λ (x : Seen). x .said) e₁),
+      inr (
+        3,
+        out,
+        ap (λ (x : Seen). command-of (x .after .rest .registers) 3) e₃ ∙ asked n p h,
+        d₄,
+        ap (λ (x : Seen). register (x .after .rest .registers) 4) e₄,
+      ),
     )
