@@ -3,17 +3,19 @@
 --   in-is-in, is-in-in   the test passes exactly for the members
 --   append-in            a member of one list or of the other is one of both together
 --   copied               bytes copied over as many; drop-replicate: what is left of n times a
+--   piece, piece-long    sixteen bytes of a list; by-way: sixteen bytes copied by way of sixteen others
 use mathlib.Core.Logic.{_⊎_, inl, inr}
 use mathlib.Core.Path.{_≡_, refl, sym, ap, ap₂, _∙_, subst}
 use mathlib.Core.Bool.{Bool, true, false, _||_}
 use mathlib.Core.List.{List, [], _∷_, _++_, append-nil}
-use Prim.Native.Nat.{ℕ, zero, suc, _-_}
+use Prim.Native.Nat.{ℕ, zero, suc, _+_, _-_, _≤_}
 use native.Mathlib.Nat.{sub-zero, zero-sub, suc-sub-suc}
 use native.Mathlib.Omega.{arith}
 use lib.Dec.{T, eqb}
 use lib.ListN.{length, take, drop, replicate, drop-of-length-le}
 use lib.Seq.{take-length}
 use borrow.Author.Tests.{eqb-true, eq-eqb}
+use borrow.Rule.Slice.PartMut.{midOf, mid-len}
 use Rattle.base.specs.Base.{In, is-in}
 
 pub in-is-in : (p : ℕ) (l : List ℕ) → In p l → is-in p l ≡ true
@@ -44,6 +46,21 @@ append-in p (a ∷ l) k (inr i) = inr (append-in p l k (inr i))
 pub copied : (from to a : List ℕ) → length to ≡ length from → a ≡ take (length from) from ++ drop (length from) to → a ≡ from
 copied from to a l e =
     e ∙ ap₂ (λ (u v : List ℕ). u ++ v) (take-length from) (drop-of-length-le to {i = length from} (omega (arith, l))) ∙ append-nil from
+
+-- the sixteen bytes from `at` on
+abbrev pub piece : ℕ → List ℕ → List ℕ
+piece at l = midOf at (at + 16 - at) l
+
+pub piece-long : (at : ℕ) (l : List ℕ) → at + 16 ≤ length l → length (piece at l) ≡ 16
+piece-long at l h = mid-len at (at + 16) l h ∙ (let q : at + 16 - at ≡ 16 = omega arith in q)
+
+-- sixteen bytes copied into sixteen others, and from there over sixteen
+pub by-way : (from to p x : List ℕ) → length from ≡ 16 → length to ≡ 16 → p ≡ take (length from) from ++ drop (length from) (replicate 16 0)
+    → x ≡ take (length p) p ++ drop (length p) to → x ≡ from
+by-way from to p x l k e f = copied p to x (k ∙ sym (ap length own ∙ l)) f ∙ own
+  where
+    own : p ≡ from
+    own = copied from (replicate 16 0) p (sym l) e
 
 pub drop-replicate : (n m a : ℕ) → drop n (replicate m a) ≡ replicate (m - n) a
 drop-replicate zero m a = ap (λ (k : ℕ). replicate k a) (sym (sub-zero m))

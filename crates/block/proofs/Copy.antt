@@ -1,15 +1,16 @@
 -- A block copied sixteen bytes at a time.
 --
 --   Front from n to   the first n bytes are there
---   piece, piece-length   sixteen bytes of a list
+--   piece-length      sixteen bytes of a block are sixteen
 --   front-more        sixteen more, from a place that is already reached
 use mathlib.Core.Path.{_≡_, refl, sym, ap, ap₂, _∙_}
 use mathlib.Core.List.{List, _++_}
 use Prim.Native.Nat.{ℕ, _+_, _-_, _≤_}
 use native.Mathlib.Omega.{arith}
-use lib.ListN.{length, take, drop, length-take, length-drop}
+use lib.ListN.{length, take, drop}
 use lib.Seq.{length-take-le, take-all, take-append-add, take-at, take-add, take-take}
-use borrow.Rule.Slice.PartMut.{midOf, putMid, same-len-mid}
+use borrow.Rule.Slice.PartMut.{putMid, same-len-mid}
+use Rattle.base.proofs.Lists.{piece, piece-long}
 
 -- the first n bytes are there
 pub record Front (from : List ℕ) (n : ℕ) (to : List ℕ) : Type 0 where
@@ -22,12 +23,8 @@ front-start from to l = record { long = l; front = refl }
 pub front-all : (from to : List ℕ) (n : ℕ) → length from ≡ 45 → 45 ≤ n → Front from n to → to ≡ from
 front-all from to n l h w = sym (take-all n to (omega (arith, w .long, h))) ∙ w .front ∙ take-all n from (omega (arith, l, h))
 
--- the sixteen bytes from `at` on
-abbrev pub piece : ℕ → List ℕ → List ℕ
-piece at l = midOf at (at + 16 - at) l
-
 pub piece-length : (at : ℕ) (l : List ℕ) → length l ≡ 45 → at + 16 ≤ 45 → length (piece at l) ≡ 16
-piece-length at l e h = rw (length-take, length-drop) (omega (arith, e, h))
+piece-length at l e h = piece-long at l (omega (arith, e, h))
 
 front-less : (from to : List ℕ) (at n : ℕ) → at ≤ n → Front from n to → take at to ≡ take at from
 front-less from to at n h w = sym (take-take at n to h) ∙ ap (take at) (w .front) ∙ take-take at n from h

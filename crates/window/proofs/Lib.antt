@@ -1,4 +1,5 @@
 pub mod Runs
+pub mod Moved
 pub mod Proposed
 pub mod Figures
 pub mod Tied

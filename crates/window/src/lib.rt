@@ -3,8 +3,9 @@
 // The oldest position comes first, and 255 stands where there is none yet, so that any 64 bytes are a window and nothing has to be kept
 // in step with a count.
 ghost use mathlib.Core.Path.{_≡_};
-ghost use Prim.Native.Nat.{_/_, _≤_, min};
-ghost use lib.ListN.{length, take, replicate};
+ghost use mathlib.Core.List.{_++_};
+ghost use Prim.Native.Nat.{_+_, _/_, _≤_, min};
+ghost use lib.ListN.{length, take, drop, replicate};
 ghost use Rattle.base.specs.Base.{least};
 ghost use Rattle.answer.specs.Answer.{outcome-answer};
 ghost use Rattle.marks.specs.Mark.{card-is};
@@ -39,16 +40,43 @@ pub fn clear(w: &mut [u8; 64]) -> Outcome
 }
 
 // ---- adding
-// The window and the eleven bytes one after the other; of these the 64 after the first n stay.
+// The sixteen bytes from `to + n` on, moved to `to`, by way of sixteen of its own: they cannot be those that are written, so that all are
+// moved at once.
+fn move_down(w: &mut [u8], to: usize, n: usize)
+    requires { ⌜ (length (now w) ≡ 64) × (to + n + 16 ≤ 64) ⌝ }
+    ensures { λ _.
+        ⌜ now (w .exit) ≡ take to (now (w .entry)) ++ (take 16 (drop (to + n) (now (w .entry))) ++ drop (to + 16) (now (w .entry))) ⌝ }
+{
+    let from = to + n;
+    let from_end = from + 16;
+    let to_end = to + 16;
+    let mut piece = [0u8; 16];
+    bytes::copy(&w[from..from_end], &mut piece);
+    bytes::copy(&piece, &mut w[to..to_end]);
+}
+
+// Sixteen bytes and eleven behind them; of these the sixteen after the first n stay.
+fn move_last(last: &mut [u8], at: &[u8], n: usize)
+    requires { ⌜ (length (now last) ≡ 16) × (length (now at) ≡ 11) × (n ≤ 11) ⌝ }
+    ensures { λ _. ⌜ now (last .exit) ≡ added (now (last .entry)) (take n (now (at .entry))) ⌝ }
+{
+    let mut joined = [0u8; 27];
+    bytes::copy(last, &mut joined[..16]);
+    bytes::copy(at, &mut joined[16..]);
+    let end = n + 16;
+    bytes::copy(&joined[n..end], last);
+}
+
+// The window and the eleven bytes one after the other; of these the 64 after the first n stay. From the front, so that nothing is written
+// over before it has been moved.
 fn move_on(w: &mut [u8], at: &[u8], n: usize)
     requires { ⌜ (length (now w) ≡ 64) × (length (now at) ≡ 11) × (n ≤ 11) ⌝ }
     ensures { λ _. ⌜ now (w .exit) ≡ added (now (w .entry)) (take n (now (at .entry))) ⌝ }
 {
-    let mut joined = [0u8; 75];
-    bytes::copy(w, &mut joined[..64]);
-    bytes::copy(at, &mut joined[64..]);
-    let end = n + 64;
-    bytes::copy(&joined[n..end], w);
+    move_down(w, 0, n);
+    move_down(w, 16, n);
+    move_down(w, 32, n);
+    move_last(&mut w[48..64], at, n);
 }
 
 fn at_most_11(n: u8) -> usize

@@ -2,8 +2,8 @@
 use mathlib.Core.Path.{refl, sym, ap, _∙_}
 use Prim.Native.Nat.{_+_, _≤_, _-_}
 use lib.ListN.{length, replicate}
-use Rattle.base.proofs.Lists.{copied}
-use Rattle.block.proofs.Copy.{Front, front-start, front-all, piece, piece-length, front-more}
+use Rattle.base.proofs.Lists.{copied, piece, by-way}
+use Rattle.block.proofs.Copy.{Front, front-start, front-all, piece-length, front-more}
 use borrow.Author.Needs.{needs}
 use native.Mathlib.Omega.{arith}
 use Rattle.block.proofs.copy_block.Statement.{statement}
@@ -81,14 +81,11 @@ loop-again c =
     let s = l .before .before .before in
     let start = a .next-start .result in
     let h : start + 16 ≤ 45 = omega (arith, a .next-start .ensures) in
-    let of-from = piece-length start (s .args .from .now) (s .pre .0) h in
-    let sixteen = copied (piece start (s .args .from .now)) (replicate 16 0) (p .copy .last .1 .0) (sym of-from) (p .copy .ensures .1) in
-    let of-to = piece-length start (l .loop .to) (l .loop .inv .1 .long) h in
-    let there = copied (p .copy .last .1 .0) (piece start (l .loop .to)) (q .copy2 .last .1 .0) (of-to ∙ sym (ap length sixteen ∙ of-from))
+    let there = by-way (piece start (s .args .from .now)) (piece start (l .loop .to)) (p .copy .last .1 .0) (q .copy2 .last .1 .0)
+    (piece-length start (s .args .from .now) (s .pre .0) h) (piece-length start (l .loop .to) (l .loop .inv .1 .long) h) (p .copy .ensures .1)
     (q .copy2 .ensures .1) in (
       h,
-      front-more (s .args .from .now) (l .loop .to) start (l .loop .at) _ (s .pre .0) h (omega (arith, a .next-start .ensures)) (there ∙ sixteen)
-          (l .loop .inv .1),
+      front-more (s .args .from .now) (l .loop .to) start (l .loop .at) _ (s .pre .0) h (omega (arith, a .next-start .ensures)) there (l .loop .inv .1),
     )
 
 same-length : tie.Need-same-length Inv-loop μ-loop

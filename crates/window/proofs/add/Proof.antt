@@ -2,7 +2,7 @@
 use mathlib.Core.Path.{_≡_, ap, _∙_}
 use lib.ListN.{length}
 use Rattle.window.specs.Window.{added}
-use Rattle.window.proofs.Runs.{take-most}
+use Rattle.window.proofs.Moved.{take-most}
 use borrow.Author.Needs.{needs}
 use Rattle.window.proofs.add.Statement.{statement}
 use Rattle.window.proofs.add.Tie as tie
