@@ -55,7 +55,8 @@ THREE = with_bytes((0, 8), (1, 6), (2, 1))
 IN_ROW = with_bytes((0, 1), (9, 1))
 SEVEN = with_bytes((20, 7))
 
-# 01, "Blocks to set up", row by row: marks, block, what its line says.
+# 01, "Blocks to set up", row by row: marks, block, what its line says.  Order 5
+# changed the row of card 0 and chip 1; the three after it are by order 5 too.
 WORKED = (
     (marks(), bytes(BLOCK), "clean"),
     (marks(), SEVEN, "chips 1"),
@@ -67,7 +68,10 @@ WORKED = (
     (marks(255, 0), IN_ROW, "chips 2"),
     (marks(255, 0, 9), SEVEN, "several"),
     (marks(0), IN_ROW, "card 0 2"),
-    (marks(0, 1), with_bytes((9, 1)), "none"),
+    (marks(0, 1), with_bytes((9, 1)), "chips 1"),
+    (marks(0, 1, 8), with_bytes((9, 1)), "chips 1"),
+    (marks(0, 10), with_bytes((9, 1)), "none"),
+    (marks(0, 1, 10), with_bytes((9, 1)), "none"),
     (marks(255, 0, 0), bytes(BLOCK), "refused 7"),
 )
 

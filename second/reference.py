@@ -248,9 +248,16 @@ def _places(*parts):
     return tuple(sorted(set().union(*parts)))
 
 
+def counted(marks):
+    """u of 01's table.  Order 5: "u, under a card mark, counts only the chip
+    marks outside the marked card".
+    """
+    return sum(p // CHIPS != marks.card for p in marks.chips)
+
+
 def chip_kind_sets(marks):
     """Places of 01's chip kind, no card marked."""
-    if len(marks.chips) == 2:
+    if counted(marks) == 2:
         return [_places(marks.chips)]
     return [_places(marks.chips, [further]) for further in range(BLOCK)]
 
@@ -263,7 +270,7 @@ def card_kind_set(marks, card):
 def card_mark_sets(marks):
     """Places of the table's last row, a card marked."""
     fixed = _places(card_places(marks.card), marks.chips)
-    if marks.chips:
+    if counted(marks):
         return [fixed]
     return [_places(fixed, [further]) for further in range(BLOCK)]
 
@@ -310,7 +317,8 @@ def is_allowed(places, marks):
         one_card = len({p // CHIPS for p in unmarked}) <= 1
         return is_chip_kind(places, marks) or one_card
     further = [p for p in unmarked if p not in card_places(marks.card)]
-    return len(further) <= (0 if marks.chips else 1)
+    off_card = [p for p in marks.chips if p not in card_places(marks.card)]
+    return len(further) <= (0 if off_card else 1)
 
 
 # --------------------------------------------------------------- the set S

@@ -1,4 +1,4 @@
-"""Checks of the second implementation against document 01 and orders 1 to 3.
+"""Checks of the second implementation against document 01 and the orders.
 
 Those of reference.py and bank.py are here, those of the registers, the window
 and the lists in selftest_registers.py, selftest_window.py and selftest_lists.py.
@@ -10,7 +10,9 @@ import os
 import random
 import subprocess
 import sys
+from collections import Counter
 from itertools import combinations, product
+from unittest import mock
 
 import bank as program
 import damage
@@ -113,7 +115,7 @@ def check_distance():
 EVERY_CARD = frozenset(range(CARDS))
 
 # Marks, bytes set, the answer, and the bytes of the corrected block that are
-# not 0 (None on a refusal).  A star in 01 is True here.
+# not 0 (None on a refusal).  A star in 01 is True here; chip 10 is not in 01.
 TABLE = (
     (True, marks(), {}, Answer(), {}),
     (True, marks(), {20: 7}, Answer(0, IN_CHIPS, 0, 1), {}),
@@ -127,7 +129,9 @@ TABLE = (
     (True, marks(255, 0, 9), {20: 7}, Answer(11, cards=frozenset({2, 3, 4})),
      None),
     (True, marks(0), {0: 1, 9: 1}, Answer(0, IN_CARD, 0, 2), {}),
-    (False, marks(0, 1), {9: 1}, Answer(10), None),
+    (False, marks(0, 1), {9: 1}, Answer(0, IN_CHIPS, 0, 1), {}),   # order 5
+    (False, marks(0, 10), {9: 1}, Answer(10), None),
+    (False, marks(0, 1, 10), {9: 1}, Answer(10), None),
     (False, marks(255, 0, 0), {}, Answer(7), None),
 )
 
@@ -142,6 +146,11 @@ KINDS = (
     (marks(0, 1, 9), {9: 1}, Answer(0, IN_CHIPS, 0, 1)),
     (marks(0, 1, 9), {1: 4, 9: 1}, Answer(0, IN_CARD, 0, 2)),
     (marks(4, 44), {44: 9}, Answer(0, IN_CARD, 4, 1)),
+    # Order 5: chips marked on the marked card, and one further chip.
+    (marks(0, 1), {1: 4, 9: 1}, Answer(0, IN_CARD, 0, 2)),
+    (marks(0, 1, 8), {9: 1}, Answer(0, IN_CHIPS, 0, 1)),
+    (marks(4, 36, 44), {35: 1}, Answer(0, IN_CHIPS, 0, 1)),
+    (marks(2, 18, 26), {17: 1, 22: 3}, Answer(0, IN_CARD, 2, 2)),
 )
 
 
@@ -412,7 +421,7 @@ def all_by_trial(block, now):
     for card in range(CARDS) if now.card is None else [now.card]:
         off = [p for p in now.chips if p // CHIPS != card]
         further = [()]
-        if now.card is not None and not now.chips:
+        if now.card is not None and not off:
             further += [(p,) for p in range(BLOCK) if p // CHIPS != card]
         for more in further:
             found |= by_trial(block, card, [*off, *more])
@@ -423,7 +432,8 @@ def check_by_trial(rng):
     """S by elimination and S by trial."""
     for shape, rounds in ((damage.fresh, 200), (damage.one_chip, 20),
                           (damage.card, 4), (damage.card_and_chip_off_it, 60),
-                          (damage.card_and_two_chips_on_it, 100),
+                          (damage.card_and_chip_on_it, 2),
+                          (damage.card_and_two_chips_on_it, 2),
                           (damage.card_and_chips_on_and_off_it, 60),
                           (damage.card_and_two_chips_off_it, 1)):
         for _ in range(rounds):
@@ -432,6 +442,35 @@ def check_by_trial(rng):
             block = damage.damaged_block(rng, record)
             check(f"S of {block.hex()} under {now}",
                   ref.lawful_blocks(block, now), all_by_trial(block, now))
+
+
+def sets_before(now):
+    """01's table before order 5: u is the count of chip marks, on any card."""
+    with mock.patch.object(ref, "counted", lambda now: len(now.chips)):
+        return ref.allowed_sets.__wrapped__(now)
+
+
+def check_before_order_5(rng):
+    """What the old rule corrected is corrected still, to the same block."""
+    for now in all_lawful_marks():
+        on_it = [p // CHIPS == now.card for p in now.chips]
+        same = sets_before(now) == ref.allowed_sets(now)
+        check(f"sets before under {now}", same, not on_it or not all(on_it))
+    found = Counter()
+    for shape, kind, record, block in damage.every_pair(rng, rounds=3):
+        if ref.marks_cause(record):
+            continue
+        now, sums = ref.open_marks(record), ref.sums(block)
+        before = {ref.reached(places, block, sums) for places in sets_before(now)}
+        before.discard(None)
+        members = ref.lawful_blocks(block, now)
+        check(f"S grows: {kind} under {now}", before <= members)
+        if len(before) == 1:
+            check(f"corrected still: {kind} under {now}", members, before)
+        found[shape, len(before), len(members)] += 1
+    for shape in ("card_and_chip_on_it", "card_and_two_chips_on_it"):
+        check(f"corrected and was not, under {shape}", found[shape, 0, 1] > 0)
+        check(f"corrected still, under {shape}", found[shape, 1, 1] > 0)
 
 
 def check_single_chips():
@@ -545,6 +584,7 @@ def main():
     check_members(rng)
     check_good_block(rng)
     check_by_trial(rng)
+    check_before_order_5(rng)
     check_single_chips()
     check_damage(rng)
     selftest_registers.check_registers(rng)

@@ -116,6 +116,41 @@ def card_and_two_chips_one_more(rng):
     return card_and_chips(rng, 2, 1)
 
 
+def own_chips(rng, card):
+    """One or two chips of a card, in any order."""
+    return rng.sample(list(ref.card_places(card)), rng.choice((1, 2)))
+
+
+def own_chips_one_more(rng):
+    """a card and one or two of its chips marked, a further bad chip"""
+    return own_chips_and(rng, 1)
+
+
+def own_chips_two_more(rng):
+    """a card and one or two of its chips marked, two further bad chips"""
+    return own_chips_and(rng, 2)
+
+
+def own_chips_another_bad(rng):
+    """a card and one or two of its chips marked, another card of random bytes"""
+    block, marks = card_marked_another_bad(rng)
+    return block, mark_record(marks[0], *own_chips(rng, marks[0]))
+
+
+def own_chips_random_bytes(rng):
+    """a card and one or two of its chips marked, 45 random bytes"""
+    card = rng.randrange(CARDS)
+    return rng.randbytes(BLOCK), mark_record(card, *own_chips(rng, card))
+
+
+def own_chips_and(rng, further):
+    card = rng.randrange(CARDS)
+    block = bytearray(BLOCK)
+    random_card(rng, block, card)
+    bad(rng, block, off_card(rng, card, further))
+    return block, mark_record(card, *own_chips(rng, card))
+
+
 def card_and_chips(rng, marked_count, further):
     card = rng.randrange(CARDS)
     block = bytearray(BLOCK)
@@ -138,15 +173,23 @@ def one_chip_exactly():
     return Fraction(4 * alone + own + 256, 256 ** 11)
 
 
+# Past a marked card two sums remain: both 0, or one of 36 directions.  Less the
+# damage, on another card or in all bytes, that reads as zeros.
+BESIDE_CARD = Fraction(1 + 36 * 255, 65536)
+ANOTHER_BAD = BESIDE_CARD - Fraction(1 + 9 * 255, 256 ** 9)
+ALL_RANDOM = BESIDE_CARD - Fraction(1 + 36 * 255, 256 ** 36)
+
 # Figure, and where a count settles it the exact share of one verdict.
 FIGURES = (
     (three_bad_chips, None),
     (chip_marked_two_more, None),
     (chip_marked_random_bytes, ("wrong record", one_chip_exactly())),
     (two_chips_marked_one_more, ("several", Fraction(1))),
-    (card_marked_another_bad,
-     ("wrong record", Fraction(1 + 36 * 255, 65536)
-      - Fraction(1 + 9 * 255, 256 ** 9))),
+    (card_marked_another_bad, ("wrong record", ANOTHER_BAD)),
+    (own_chips_one_more, ("right record", Fraction(1))),
+    (own_chips_two_more, ("wrong record", Fraction(34, 255))),
+    (own_chips_another_bad, ("wrong record", ANOTHER_BAD)),
+    (own_chips_random_bytes, ("wrong record", ALL_RANDOM)),
     (card_and_chip_one_more, ("none", Fraction(1))),
     (card_and_chip_two_more, ("wrong record", Fraction(1, 255))),
     (card_and_two_chips_one_more, ("wrong record", Fraction(1))),

@@ -104,7 +104,7 @@ def masked_by(marks):
 
 
 def nothing_left(rng):
-    """two chips marked, or a card and a chip off it; up to two more bad"""
+    """two chips and no card marked, or a card and a chip off it; up to two more bad"""
     added = beside = 0
     for shape in (damage.two_chips, damage.card_and_chip_off_it) * 500:
         bench = Bench(bytes(shape(rng)))

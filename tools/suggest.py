@@ -83,15 +83,14 @@ def _about_card_mark(seen):
         return
     yield 4, (f"Card {j} is marked. Of {plural(seen.read, 'block')} read: "
               f"{_cards_changed(seen)}.")
-    yield 5, f"Card {j} is marked."
+    on = [p for p in seen.marked_chips() if p // CHIPS == j]
+    yield 5, f"Card {j} is marked" + (
+        f", and on it {_listed(map(chip_words, on))}." if on else ".")
     if seen.total("none"):
         yield 6, (f'{plural(seen.total("none"), "block")} read as "none" while '
                   f"card {j} is marked.")
-    on = [p for p in seen.marked_chips() if p // CHIPS == j]
     if len(seen.marked_chips()) - len(on) == 2:
         yield 8, f"Card {j} and two chips off it are marked."
-    if on:
-        yield 9, f"Marked on card {j} itself: {_listed(map(chip_words, on))}."
 
 
 def _about_chips(seen):

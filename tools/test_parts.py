@@ -23,14 +23,14 @@ def suggested(lib, record, bank):
 
 
 class Rules(unittest.TestCase):
-    def test_all_nine_in_the_page_s_words(self):
+    def test_all_eight_in_the_page_s_words(self):
         page = (ROOT / "docs" / "DATA-SHEET.md").read_text(encoding="utf-8")
         plain = re.sub(r"\s+", " ", page.replace("**", ""))
         found = suggest.rules()
-        self.assertEqual(list(found), list(range(1, 10)))
+        self.assertEqual(list(found), list(range(1, 9)))
         for number, text in found.items():
             self.assertIn(f"{number}. {text}", plain)
-        self.assertTrue(found[9].endswith("when the card is marked."))
+        self.assertTrue(found[8].endswith("for a while."))
 
     def test_which_rules_a_bank_calls_for(self):
         with library.open_library(ARCHIVE) as lib:
@@ -48,10 +48,10 @@ class Rules(unittest.TestCase):
                     (marks(4), LAST_CARD, [4, 5]),
                     (marks(1), CLEAN + CHIPS + block((1, 1), (20, 1), (40, 3)),
                      [4, 5, 6]),
-                    (marks(4, 44), LAST_CARD, [4, 5, 9]),
+                    (marks(4, 44), LAST_CARD, [4, 5]),
                     (marks(4, 0), LAST_CARD + block((0, 1)), [4, 5]),
                     (marks(4, 0, 1), LAST_CARD + block((0, 1), (1, 1)), [4, 5, 8]),
-                    (marks(4, 0, 44), LAST_CARD + block((0, 1)), [4, 5, 9]),
+                    (marks(4, 0, 44), LAST_CARD + block((0, 1)), [4, 5]),
                     # With a proposal: a failing chip, a bad card, both, a
                     # chip beside a marked card, two chips of one card.
                     (marks(), CHIPS * 4, [1, 3, 7, 7]),
@@ -70,6 +70,17 @@ class Rules(unittest.TestCase):
             "Nothing is marked, and 2 blocks would be put right.",
             "Of 2 blocks read: card 2 changed in 2.",
             "Single chips changed, not marked: chip 2 of card 2 in 2 blocks."])
+
+    def test_chips_marked_on_the_marked_card(self):
+        for chips, words in (((), "Card 4 is marked."),
+                             ((0,), "Card 4 is marked."),
+                             ((44,), "Card 4 is marked, and on it chip 8 of card 4."),
+                             ((0, 44), "Card 4 is marked, and on it chip 8 of card 4."),
+                             ((44, 36), "Card 4 is marked, and on it chip 8 of card 4, "
+                                        "chip 0 of card 4.")):
+            with library.open_library(ARCHIVE) as lib:
+                found = suggested(lib, marks(4, *chips), LAST_CARD)
+            self.assertEqual([s.because for s in found if s.rule == 5], [words])
 
 
 class Terminal(io.StringIO):

@@ -1,8 +1,8 @@
 """Compares the library's calls with second/: reference.py, registers.py,
 window.py, book.py.
 
-First every call with every length of every slice, every address of the registers
-and every sort of window; then seeded lists of calls, register writes and hits,
+First single calls: every length of every slice, every address of the registers,
+each card mark with each set of chips, and every sort of window.  Then seeded lists of calls, register writes and hits,
 refused ones too, each from a cleared bank, registers at their start and an empty
 window.  Every answer is compared, and after every entry but a hit every byte of
 bank, output, registers (8 to 11 are the marks) and window, the interrupt and the

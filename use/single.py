@@ -1,7 +1,8 @@
 """Single calls on bytes of their own, the library's against second/.
 
-Every length of every slice, every number of a chip or card, every address and
-value of a register, the interrupt's bits, and windows of every sort.
+Every length of every slice, every number of a chip or card, reads under each card
+mark with each set of chips, every address and value of a register, the interrupt's
+bits, and windows of every sort.
 """
 
 import itertools
@@ -12,7 +13,7 @@ import reference as ref
 import registers
 import window
 from agree import Difference, expect, expect_answer, take_card_over
-from reference import BLOCK, CHIPS, RECORD
+from reference import BLOCK, CARDS, CHIPS, RECORD
 
 SHORT = range(100)                        # lengths of a slice
 LARGEST = BLOCK * ref.MOST_BLOCKS         # 46,080
@@ -179,6 +180,27 @@ def mark_commands(lib):
     return made
 
 
+# ---------------------------------------------------- marks beside a marked card
+
+def under_each_card(lib, rng):
+    """Each card marked with each set of chips: a read with one further chip bad, and
+    one with a second further chip, or with the card and the marked chips bad too."""
+    sets = [chips for count in range(3)
+            for chips in itertools.combinations(range(BLOCK), count)]
+    for card, chips in itertools.product(range(CARDS), sets):
+        chips = rng.sample(chips, len(chips))
+        marks = ref.close_marks(ref.Marks(card, tuple(chips)))
+        on = ref.card_places(card)
+        off = [p for p in range(BLOCK) if p not in on and p not in chips]
+        one, two = rng.sample(off, 2)
+        for bad in (one,), rng.choice(((one, two), (*on, *chips, one))):
+            block = bytearray(BLOCK)
+            for p in bad:
+                block[p] = rng.randrange(1, 256)
+            compare_call(lib, "read", bytes(block), marks, rng.randbytes(BLOCK))
+    return 2 * CARDS * len(sets)
+
+
 # ---------------------------------------------------------------- registers
 
 def some_registers(rng):
@@ -297,6 +319,6 @@ def windows(lib, rng):
 def compare_all(lib, rng):
     """All of the above; gives how many calls were made."""
     return (lengths_of_calls(lib, rng) + mark_numbers(lib) + mark_commands(lib)
-            + register_addresses(lib, rng) + register_lengths(lib, rng)
-            + register_block_numbers(lib, rng) + interrupt_bits(lib, rng)
-            + around_four(lib) + windows(lib, rng))
+            + under_each_card(lib, rng) + register_addresses(lib, rng)
+            + register_lengths(lib, rng) + register_block_numbers(lib, rng)
+            + interrupt_bits(lib, rng) + around_four(lib) + windows(lib, rng))

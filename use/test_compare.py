@@ -13,6 +13,7 @@ import library
 from kit import ARCHIVE, C_FLAGS, KIT, ROOT, InFolder, needs, run, try_run
 
 import compare as comparison     # which finds second/ for single.py too
+import miscounted
 import misplaced
 import mistakes
 import seen
@@ -221,6 +222,25 @@ class MarkMistakes(OnTheLibrary):
         for what, pending in misplaced.PENDING.items():
             with self.subTest(what):
                 lib = self.lib_with(misplaced.NOTHING_MISPLACED, True, pending)
+                self.assertTrue(self.found_by_single_calls(lib))
+                self.assertTrue(self.found_in_lists(lib))
+
+
+class CountMistakes(OnTheLibrary):
+    def found_by_single_calls(self, lib):
+        try:
+            single.under_each_card(lib, random.Random(1))
+        except single.Difference:
+            return True
+        return False
+
+    def test_each_is_found(self):
+        right = miscounted.Miscounted(self.lib, miscounted.COUNTED)
+        self.assertFalse(self.found_by_single_calls(right))
+        self.assertFalse(self.found_in_lists(right))
+        for what, counted in miscounted.MISCOUNTED.items():
+            with self.subTest(what):
+                lib = miscounted.Miscounted(self.lib, counted)
                 self.assertTrue(self.found_by_single_calls(lib))
                 self.assertTrue(self.found_in_lists(lib))
 

@@ -31,9 +31,9 @@ extern "C" {
 
 /* The version: another MAJOR may need changes in a program that uses it. */
 #define LIVOMASHEN_VERSION_MAJOR 2
-#define LIVOMASHEN_VERSION_MINOR 1
-#define LIVOMASHEN_VERSION_PATCH 1
-#define LIVOMASHEN_VERSION "2.1.1"
+#define LIVOMASHEN_VERSION_MINOR 2
+#define LIVOMASHEN_VERSION_PATCH 0
+#define LIVOMASHEN_VERSION "2.2.0"
 
 /* Sizes. */
 enum {

@@ -285,9 +285,11 @@ enum Found {
 
 fn search(s: &Sums, marks: &Marks) -> Found {
     if let Some(j) = marks.card {
-        let change = match marks.count {
-            0 => solve_with_one_more(s, j),
-            _ => marks.solve(s, j),
+        // Only the chip marks outside the card count.
+        let change = if marks.chips().iter().all(|p| p / CHIPS == j) {
+            solve_with_one_more(s, j)
+        } else {
+            marks.solve(s, j)
         };
         return change.map_or(Found::None, Found::One);
     }

@@ -18,7 +18,7 @@ as-many : (es : List Entry) (ss : List Seen) {b b′ : Book} → Booked b es ss 
 as-many [] [] Booked.end = refl
 as-many (e ∷ es) (s ∷ ss) (Booked.then w r) = ap suc (as-many es ss r)
 
-last : (es : List Entry) (ss : List Seen) (e : Entry) (s : Seen) {b b″ : Book} → Booked b (es ++ (e ∷ [])) (ss ++ (s ∷ [])) b″
+pub last : (es : List Entry) (ss : List Seen) (e : Entry) (s : Seen) {b b″ : Book} → Booked b (es ++ (e ∷ [])) (ss ++ (s ∷ [])) b″
     → (b′ : Book) × Booked b es ss b′ × Step b′ e s b″
 last [] [] e s {b = b} (Booked.then w Booked.end) = (b, Booked.end, w)
 last [] (y ∷ ss) e s (Booked.then w r) = absurd (let h = as-many [] (ss ++ (s ∷ [])) r ∙ length-append ss (s ∷ []) in omega (arith, h))

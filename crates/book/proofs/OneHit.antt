@@ -1,5 +1,6 @@
 -- One byte of a block is hit after a put: the damage is allowed and of the chip kind, the get is not refused, and gives the record.
 --
+--   put-done    what the book says of a put that is not refused; last-is: and that its record is the one last put
 --   one-byte    a block with one byte set differs from it by a change of the chip kind
 --   one-hit, one-hit-by-command   THE STATEMENTS, with the get by the call and by the command
 use Prim.Native.Nat.{ℕ, suc, _+_, _*_, _/_, _%_, _≤_, _<_}
@@ -48,10 +49,28 @@ fresh-lawful = record { card = tt; count = omega arith; first = inr (refl, refl)
 abbrev pub after : ℕ → ℕ → List ℕ → ℕ → ℕ → Book
 after n k good i x = with-held (with-both (fresh-book n) k good) k (set good i x)
 
-module _ (n k : ℕ) (hi : n ≤ 1024) (hk : k < n) (rec out : List ℕ) (lr : length rec ≡ 34) (lq : length out ≡ 45) (i x : ℕ) (h : i < 45) where
+module _ (n k : ℕ) (hi : n ≤ 1024) (hk : k < n) (rec : List ℕ) (lr : length rec ≡ 34) where
   puts : put-cause (45 * n) k (length rec) ≡ 0
   puts = accepts (45 * n) k (length rec) 45 fresh-marks .put .1 ((n, omega arith, hi, refl), omega arith, lr)
 
+  -- what the book says of the put
+  pub put-done : (s : Seen) (b : Book) → Step (fresh-book n) (call (put k rec)) s b
+      → (good : List ℕ) × Stored built-in rec good × (b ≡ with-both (fresh-book n) k good)
+  put-done s b w =
+      let a = w .says .0 in
+      let z : put-cause (size (fresh-book n)) k (length rec) ≡ 0 = ap (λ (l : ℕ). put-cause (45 * l) k (length rec)) (length-replicate n zeros) ∙ puts in
+      let d = by-accepted _ a (b ≡ fresh-book n)
+      ((a ≡ done) × ((y : List ℕ) × OneMember (Stored built-in rec) y × (b ≡ with-both (fresh-book n) k y))) z (w .says .2 .1) in
+      (d .1 .0, d .1 .1 .0, d .1 .2)
+
+  -- the record last put is this one, whatever follows that puts none
+  pub last-is : (es : List Entry) → ((r : List ℕ) → last-put n k r es ≡ r) → last-put n k (replicate 34 0) (call (put k rec) ∷ es) ≡ rec
+  unfolding last-put
+  last-is es keeps =
+      keeps _ ∙ ap (λ (t : Bool). if (t && eqb k k) rec (replicate 34 0)) (eq-eqb _ 0 puts)
+      ∙ ap (λ (t : Bool). if t rec (replicate 34 0)) (eq-eqb k k refl)
+
+module _ (n k : ℕ) (hi : n ≤ 1024) (hk : k < n) (rec out : List ℕ) (lr : length rec ≡ 34) (lq : length out ≡ 45) (i x : ℕ) (h : i < 45) where
   pub gets : get-cause (45 * n) k fresh-marks (length out) ≡ 0
   gets = accepts (45 * n) k 34 (length out) fresh-marks .get .1 ((n, omega arith, hi, refl), omega arith, fresh-lawful, lq)
 
@@ -67,11 +86,8 @@ module _ (n k : ℕ) (hi : n ≤ 1024) (hk : k < n) (rec out : List ℕ) (lr : l
   pub put-then : (s t : Seen) (b₁ b₂ : Book) → Step (fresh-book n) (call (put k rec)) s b₁ → Step b₁ (hit (45 * k + i) x) t b₂
       → (good : List ℕ) × (b₂ ≡ after n k good i x) × Stored built-in rec good × (b₁ ≡ with-both (fresh-book n) k good)
   put-then s t b₁ b₂ w v =
-      let a = w .says .0 in
-      let z : put-cause (size (fresh-book n)) k (length rec) ≡ 0 = ap (λ (l : ℕ). put-cause (45 * l) k (length rec)) (length-replicate n zeros) ∙ puts in
-      let d = by-accepted _ a (b₁ ≡ fresh-book n)
-      ((a ≡ done) × ((y : List ℕ) × OneMember (Stored built-in rec) y × (b₁ ≡ with-both (fresh-book n) k y))) z (w .says .2 .1) in
-      (d .1 .0, v .says .2 ∙ hit-then b₁ (d .1 .0) (d .1 .2), d .1 .1 .0, d .1 .2)
+      let d = put-done n k hi hk rec lr s b₁ w in
+      (d .0, v .says .2 ∙ hit-then b₁ (d .0) (d .2), d .1, d .2)
 
   module _ (good : List ℕ) where
     pub held : held-at (after n k good i x) k ≡ set good i x
@@ -86,7 +102,7 @@ module _ (n k : ℕ) (hi : n ≤ 1024) (hk : k < n) (rec out : List ℕ) (lr : l
   -- the record last put is this one
   last : last-put n k (replicate 34 0) (call (put k rec) ∷ hit (45 * k + i) x ∷ []) ≡ rec
   unfolding last-put
-  last = ap (λ (t : Bool). if (t && eqb k k) rec (replicate 34 0)) (eq-eqb _ 0 puts) ∙ ap (λ (t : Bool). if t rec (replicate 34 0)) (eq-eqb k k refl)
+  last = last-is n k hi hk rec lr (hit (45 * k + i) x ∷ []) (λ r. refl)
 
   abbrev list : List Entry
   list = call (put k rec) ∷ hit (45 * k + i) x ∷ []

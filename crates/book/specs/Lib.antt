@@ -3,3 +3,4 @@ pub mod Kept
 pub mod Noted
 pub mod Possible
 pub mod Again
+pub mod Pulled

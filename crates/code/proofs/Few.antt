@@ -4,7 +4,8 @@
 --   few-once         of few chips none stands twice
 --   few-of           of any list the positions, each once (Positions)
 --   beside-one, beside-two    one chip off card j, and two that differ; off-in, beside-in: what holds of each
---   in-keep, keep-in what is kept; keep-few, keep-off, keep-beside: it is few, and off card j
+--   in-keep, keep-in what is kept; keep-few, keep-off, keep-beside: it is few, and off card j; keep-short: and no longer
+--   keep-all         of chips off card j all are kept
 --   kept, all-kept   card j and the chips ps are card j and what is kept of them
 --   widen            a change within P is one within Q
 --   between          the difference of what two changes lead to
@@ -12,12 +13,12 @@ use mathlib.Core.Logic.{_≢_, _⊎_, inl, inr}
 use mathlib.Core.Path.{_≡_, refl, sym, ap, _∙_, subst}
 use mathlib.Core.Bool.{Bool, true, false}
 use mathlib.Core.List.{List, [], _∷_}
-use Prim.Native.Nat.{ℕ, zero, suc, _/_, _<_}
+use Prim.Native.Nat.{ℕ, zero, suc, _/_, _<_, _≤_}
 use native.Mathlib.Decide.{decLt}
 use native.Mathlib.Omega.{arith}
 use lib.Dec.{eqb}
 use lib.ListN.{length}
-use borrow.Author.Tests.{eqb-true, eqb-false}
+use borrow.Author.Tests.{eqb-true, eqb-false, ne-eqb}
 use Rattle.base.specs.Base.{if, In, is-in, Few}
 use Rattle.base.proofs.Lists.{in-is-in, is-in-in}
 use Rattle.base.proofs.Few.{few-in, few-more, few-one, few-two}
@@ -132,6 +133,20 @@ keep-off j (p ∷ ps) = go (eqb (p / 9) j) refl (keep-off j ps)
 
 pub keep-beside : (j : ℕ) (ps : List ℕ) → Few rules ps → Beside j (keep j ps)
 keep-beside j ps few = (keep-few rules j ps few, keep-off j ps)
+
+pub keep-short : (j : ℕ) (ps : List ℕ) → length (keep j ps) ≤ length ps
+unfolding keep
+keep-short j [] = omega arith
+keep-short j (p ∷ ps) = go (eqb (p / 9) j) (keep-short j ps)
+  where
+    go : (t : Bool) → length (keep j ps) ≤ length ps → length (if t (keep j ps) (p ∷ keep j ps)) ≤ suc (length ps)
+    go true h = omega arith
+    go false h = omega arith
+
+pub keep-all : (j : ℕ) (ps : List ℕ) → Off j ps → keep j ps ≡ ps
+unfolding keep
+keep-all j [] off = refl
+keep-all j (p ∷ ps) off = ap (λ (t : Bool). if t (keep j ps) (p ∷ keep j ps)) (ne-eqb (p / 9) j (off .0)) ∙ ap (λ (l : List ℕ). p ∷ l) (keep-all j ps (off .1))
 
 -- card j and the chips ps are card j and those that are kept
 pub kept : (j : ℕ) (ps : List ℕ) (p : ℕ) → p < 45 → (p / 9 ≡ j) ⊎ In p ps → (p / 9 ≡ j) ⊎ In p (keep j ps)

@@ -2,7 +2,8 @@
 --
 --   none-reads, none-answers     no search beside the card reaches a lawful block
 --   found-reads, found-answers   one does: the block is told by what is changed of the card
---   beside-marked                with a chip marked, there is one search: with the marked chips
+--   unmarked-answers             the marked chips on the card make no difference
+--   beside-marked                with a chip marked off the card, there is one search: with the marked chips
 --   fails-at                     with none marked, the search with chip f fails where the card alone does, and the sums are no multiple of f's column
 --   first-zero, first-nonzero    the card alone fails; alone-fits: it doesn't, where both sums are 0
 use mathlib.Core.Logic.{_≢_, _⊎_, inl, inr}
@@ -22,7 +23,7 @@ use Rattle.answer.specs.Answer.{refused}
 use Rattle.code.specs.Block.{Block, changes, OneMember}
 use Rattle.code.specs.Labels.{entry, LabelSet}
 use Rattle.code.specs.Reach.{rules, Beside, keep, Reached}
-use Rattle.code.proofs.Few.{keep-beside}
+use Rattle.code.proofs.Few.{keep-beside, keep-all}
 use Rattle.marks.specs.Marks.{chips-of}
 use Rattle.marks.specs.declared.CardMark.the-variants.{Card}
 use Rattle.sums.specs.Sums.{rows-of}
@@ -34,7 +35,7 @@ use Rattle.reading.specs.Reading.{S, reading-answer, Reads}
 use Rattle.reading.specs.declared.Kind.{Kind}
 use Rattle.reading.specs.declared.Reading.the-variants.{Corrected, Refused}
 use Rattle.reading.proofs.Searches.{beside-chips, beside-few, covered-beside, covers-beside}
-use Rattle.reading.proofs.Facts.{card-one}
+use Rattle.reading.proofs.Facts.{card-one, as-unmarked}
 use Rattle.decode.specs.Equations.{fits-by, Within, Solves}
 use Rattle.decode.specs.Search.{SumsAt, chips-kind, card-kind}
 use Rattle.decode.specs.Decode.{Answers}
@@ -45,20 +46,21 @@ use Rattle.decode.proofs.Marked.{on, off as off-j}
 use Rattle.decode.proofs.Kind.{formed, card-changed, card-kept}
 use Rattle.decode.proofs.Cards.{from-keep, to-keep}
 
-module _ (ls : List ℕ) (ok : LabelSet ls) (ps : List ℕ) (few : Few rules ps) (b : List ℕ) (j : ℕ) (hj : j < 5) where
+-- no chip of the card is marked
+module _ (ls : List ℕ) (ok : LabelSet ls) (b : List ℕ) (j : ℕ) (hj : j < 5) (ps : List ℕ) (beside : Beside j ps) where
   pub none-reads : ((f : ℕ) → f < 45 → (x : List ℕ) → Reached ls j (beside-chips ps f) b x → ⊥) → Reads ls (Card j) ps b b (refused 10) b
-  none-reads h = (refl, (λ y m. let w = covered-beside j b y ls ps m in h (w .0) (w .1) y (w .2)), refl)
+  none-reads h = (refl, (λ y m. let w = covered-beside j b y ls ps (beside .1) m in h (w .0) (w .1) y (w .2)), refl)
 
   module _ (bb : Block b) (f : ℕ) (hf : f < 45) (d : Change) (w : Within j (keep j (beside-chips ps f)) d)
       (r : Reached ls j (keep j (beside-chips ps f)) b (applied b d)) where
     off : Beside j (keep j (beside-chips ps f))
-    off = keep-beside j (beside-chips ps f) (beside-few ps few f hf)
+    off = keep-beside j (beside-chips ps f) (beside-few ps (beside .0) f hf)
 
     member : S ls (Card j) ps b (applied b d)
-    member = covers-beside j b (applied b d) ls ps f (from-keep ls j (beside-chips ps f) b (applied b d) r)
+    member = covers-beside j b (applied b d) ls ps (beside .1) f (from-keep ls j (beside-chips ps f) b (applied b d) r)
 
     one : OneMember (S ls (Card j) ps b) (applied b d)
-    one = (member, λ y m. card-one ls ok ps few b j hj y (applied b d) m member)
+    one = (member, λ y m. card-one ls ok ps (beside .0) b j hj y (applied b d) m member)
 
     n-is : weight d ≡ changes b (applied b d)
     n-is = sym (changes-weight d (formed d j hj (keep j (beside-chips ps f)) w off) b (bb .long))
@@ -85,15 +87,15 @@ module _ (ls : List ℕ) (ok : LabelSet ls) (ps : List ℕ) (few : Few rules ps)
         )
 
 -- ---- for every block with these sums
-module _ (ls : List ℕ) (ok : LabelSet ls) (ps : List ℕ) (few : Few rules ps) (s : Sums) (j : ℕ) (hj : j < 5) (t₁ t₂ : ℕ) (at : SumsAt ls s j t₁ t₂) where
+module _ (ls : List ℕ) (ok : LabelSet ls) (s : Sums) (j : ℕ) (hj : j < 5) (ps : List ℕ) (beside : Beside j ps) (t₁ t₂ : ℕ) (at : SumsAt ls s j t₁ t₂) where
   off-at : (f : ℕ) → f < 45 → Beside j (keep j (beside-chips ps f))
-  off-at f hf = keep-beside j (beside-chips ps f) (beside-few ps few f hf)
+  off-at f hf = keep-beside j (beside-chips ps f) (beside-few ps (beside .0) f hf)
 
   pub none-answers : ((f : ℕ) → f < 45 → fits-by ls j (keep j (beside-chips ps f)) t₁ t₂ ≡ false)
       → (r : Decoded) → (r .reading ≡ Refused 10) × (r .change ≡ no-change) → Answers ls (Card j) ps s r
   none-answers h r e =
       refusal ls (Card j) ps s r (Refused 10) e
-      (λ b k. none-reads ls ok ps few b j hj
+      (λ b k. none-reads ls ok b j hj ps beside
       (λ f hf x y. unsolved ls b (rows-of s) j hj t₁ t₂ (known-beside ls b ok s k j t₁ t₂ at) (keep j (beside-chips ps f)) (off-at f hf) (h f hf) x
       (to-keep ls j (beside-chips ps f) b x y)))
 
@@ -104,12 +106,21 @@ module _ (ls : List ℕ) (ok : LabelSet ls) (ps : List ℕ) (few : Few rules ps)
       subst (λ (x : Kind). Answers ls (Card j) ps s (record { reading = Corrected x; change = d })) (sym q)
       (correction ls (Card j) ps s (card-kind j (tally 9 (nonzero-at (d .rows))) (weight d)) d
       (formed d j hj (keep j (beside-chips ps f)) (v .within) (off-at f hf))
-      (λ b k. found-reads ls ok ps few b j hj (k .block) f hf d (v .within) (v .reached b (known-beside ls b ok s k j t₁ t₂ at))))
+      (λ b k. found-reads ls ok b j hj ps beside (k .block) f hf d (v .within) (v .reached b (known-beside ls b ok s k j t₁ t₂ at))))
 
-pub beside-marked : (n p q f : ℕ) → n ≢ 0 → beside-chips (chips-of n p q) f ≡ chips-of n p q
-beside-marked zero p q f ne = absurd (ne refl)
-beside-marked (suc zero) p q f ne = refl
-beside-marked (suc (suc n)) p q f ne = refl
+-- ---- any marks
+pub unmarked-answers : (ls : List ℕ) → LabelSet ls → (j : ℕ) → j < 5 → (ps : List ℕ) → Few rules ps → (s : Sums) (r : Decoded)
+    → Answers ls (Card j) (keep j ps) s r → Answers ls (Card j) ps s r
+unmarked-answers ls ok j hj ps few s r a = record {
+  reads = λ b k. as-unmarked ls ok j hj b ps few b (reading-answer (r .reading)) (applied b (r .change)) .1 (a .reads b k);
+  unchanged = a .unchanged;
+  formed = a .formed;
+}
+
+pub beside-marked : (j n p q : ℕ) → Beside j (chips-of n p q) → n ≢ 0 → (f : ℕ) → keep j (beside-chips (chips-of n p q) f) ≡ chips-of n p q
+beside-marked j zero p q o ne f = absurd (ne refl)
+beside-marked j (suc zero) p q o ne f = keep-all j (p ∷ []) (o .1)
+beside-marked j (suc (suc n)) p q o ne f = keep-all j (p ∷ q ∷ []) (o .1)
 
 -- ---- no chip marked
 module _ (ls : List ℕ) (j t₁ t₂ : ℕ) where

@@ -65,11 +65,11 @@ fn fits_alone(s: sums::Sums, rows: [u8; 9], j: u8) -> bool
     requires { ⌜ (j < 5) × (rows ≡ rows-of s) ⌝ }
     ensures { λ r. ⌜ Alone built-in s j r ⌝ }
 {
-    let u = sums::card_word(rows, j);
-    if sums::at_x(u) != s.once {
+    let word = sums::card_word(rows, j);
+    if sums::at_x(word) != s.once {
         return false;
     }
-    sums::at_x_squared(u) == s.squared
+    sums::at_x_squared(word) == s.squared
 }
 
 // No chip marked either: what a card takes are the rows themselves, so that all cards change as many bytes.
@@ -119,9 +119,9 @@ fn over_cards(labels: &[u8], s: sums::Sums, m: marks::Marks) -> Decoded
     let mut held_once: u8 = 0;
     let mut held_squared: u8 = 0;
     'cards: for j in 0u8..5 {
-        let u = sums::card_word(rows, j);
-        let once = field::add(s.once, sums::at_x(u));
-        let squared = field::add(s.squared, sums::at_x_squared(u));
+        let word = sums::card_word(rows, j);
+        let once = field::add(s.once, sums::at_x(word));
+        let squared = field::add(s.squared, sums::at_x_squared(word));
         let w = chips::off_card(m, j);
         if equations::fits(labels, once, squared, j, w) {
             let d = equations::solve(labels, rows, once, squared, j, w);
@@ -170,7 +170,7 @@ fn kind_under(d: change::Change, j: u8) -> reading::Kind
     reading::Kind::OneCard(j, n)
 }
 
-// No chip marked: card j alone, or with the one further chip that can be wrong.
+// No chip marked off the card: card j alone, or with the one further chip that can be wrong.
 fn beside_card(labels: &[u8], rows: [u8; 9], once: u8, squared: u8, j: u8) -> Decoded
     requires { ⌜ LabelSet (now labels) × (j < 5) ⌝ }
     ensures { λ r. ⌜ ((s : Sums) → rows ≡ rows-of s → SumsAt (now (labels .entry)) s j once squared → Answers (now (labels .entry)) (Card j) [] s r) ⌝ }
@@ -196,19 +196,19 @@ fn beside_card(labels: &[u8], rows: [u8; 9], once: u8, squared: u8, j: u8) -> De
     }
 }
 
-// At most one lawful block is allowed.
+// At most one lawful block is allowed. Which chips of the card itself are marked makes no difference.
 fn under_card(labels: &[u8], s: sums::Sums, m: marks::Marks, j: u8) -> Decoded
     requires { ⌜ LabelSet (now labels) × (now labels ≡ built-in) × LawfulMarks m × (j < 5) ⌝ }
     ensures { λ r. ⌜ Answers (now (labels .entry)) (Card j) (marked-chips m) s r ⌝ }
 {
     let rows = sums::rows(s);
-    let u = sums::card_word(rows, j);
-    let once = field::add(s.once, sums::at_x(u));
-    let squared = field::add(s.squared, sums::at_x_squared(u));
-    if m.count == 0 {
+    let word = sums::card_word(rows, j);
+    let once = field::add(s.once, sums::at_x(word));
+    let squared = field::add(s.squared, sums::at_x_squared(word));
+    let w = chips::off_card(m, j);
+    if w.count == 0 {
         return beside_card(labels, rows, once, squared, j);
     }
-    let w = chips::off_card(m, j);
     if equations::fits(labels, once, squared, j, w) {
         let d = equations::solve(labels, rows, once, squared, j, w);
         return Decoded {

@@ -22,14 +22,16 @@ use Rattle.base.proofs.Tally.{clash, tally-none, tally-one, tally-some, tally-t
 use Rattle.answer.specs.Answer.{Answer, clean, in-chips, in-card, refused, refused-card}
 use Rattle.code.specs.Block.{byte, Block, changes, OneMember}
 use Rattle.code.specs.Labels.{LabelSet}
-use Rattle.code.specs.Reach.{rules, keep, Reached}
+use Rattle.code.specs.Reach.{rules, Beside, keep, Reached}
 use Rattle.code.proofs.Blocks.{same-block}
+use Rattle.code.proofs.Few.{keep-beside}
 use Rattle.code.proofs.Reach.{fits, closed, candidate-few, reached-few}
 use Rattle.marks.specs.Marks.{CardInRange}
 use Rattle.marks.specs.declared.CardMark.{CardMark}
 use Rattle.marks.specs.declared.CardMark.the-variants.{None, Card}
 use Rattle.reading.specs.Allowed.{further, ChipKind, CardChanged, OfChipKind}
 use Rattle.reading.specs.Reading.{S, OnCard, Reads}
+use Rattle.reading.proofs.Beside.{in-kept, in-from}
 use Rattle.reading.proofs.Searches.{further-one, covered, covers, beside-chips, beside-few, covered-beside, covers-beside}
 use Rattle.reading.proofs.Facts.{card-one}
 
@@ -206,15 +208,23 @@ module _ (ls : List ℕ) (ok : LabelSet ls) (ps : List ℕ) (few : Few rules ps)
 
   pub reads-exist : (c : CardMark) → CardInRange c → (out : List ℕ) → (a : Answer) × (x : List ℕ) × Reads ls c ps b out a x
   unfolding Read Some Other
-  reads-exist (Card m) hm out = go (find (λ f. Some m (beside-chips ps f)) 45 (λ f l. search-of m hm (beside-chips ps f) (beside-few ps few f l)))
+  reads-exist (Card m) hm out = go (find (λ f. Some m (beside-chips qs f)) 45 (λ f l. search-of m hm (beside-chips qs f) (beside-few qs (off .0) f l)))
     where
-      go : ((f : ℕ) × (f < 45) × ((x : List ℕ) × Reached ls m (beside-chips ps f) b x))
-          ⊎ ((f : ℕ) → f < 45 → (x : List ℕ) × Reached ls m (beside-chips ps f) b x → ⊥)
+      -- the marked chips off the card
+      qs : List ℕ
+      qs = keep m ps
+
+      off : Beside m qs
+      off = keep-beside m ps few
+
+      go : ((f : ℕ) × (f < 45) × ((x : List ℕ) × Reached ls m (beside-chips qs f) b x))
+          ⊎ ((f : ℕ) → f < 45 → (x : List ℕ) × Reached ls m (beside-chips qs f) b x → ⊥)
           → (a : Answer) × (x : List ℕ) × Reads ls (Card m) ps b out a x
       go (inl w) =
-          let s = covers-beside m b (w .2 .0) ls ps (w .0) (w .2 .1) in
+          let s = in-from m ps b (w .2 .0) ls (covers-beside m b (w .2 .0) ls qs (off .1) (w .0) (w .2 .1)) in
           told (Card m) out (w .2 .0) (s, λ y t. card-one ls ok ps few b m hm y (w .2 .0) t s)
-      go (inr h) = (refused 10, out, (refl, (λ y t. let w = covered-beside m b y ls ps t in h (w .0) (w .1) (y, w .2)), refl))
+      go (inr h) =
+          (refused 10, out, (refl, (λ y t. let w = covered-beside m b y ls qs (off .1) (in-kept m ps b y ls t) in h (w .0) (w .1) (y, w .2)), refl))
   reads-exist None r out = go (find (λ j. Some j ps) 5 (λ j l. search-of j l ps few))
     where
       go : ((j : ℕ) × (j < 5) × ((x : List ℕ) × Reached ls j ps b x)) ⊎ ((j : ℕ) → j < 5 → (x : List ℕ) × Reached ls j ps b x → ⊥)

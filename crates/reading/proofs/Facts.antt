@@ -1,7 +1,8 @@
 -- Facts about S that users rely on, the marked chips ps being at most two.
 --
 --   chip-one     a member of S by a change of the chip kind is the only one: such damage never reads as several
---   card-one     under a card mark S has at most one member
+--   card-one     under a card mark S has at most one member; not-several: and so not two
+--   as-unmarked  under a card mark a block reads as it does with the marked chips off that card alone; reads-alike: what it rests on
 --   apart        what two cards reach alike lies in marked chips; by-marked: which is of the chip kind
 --   never-none   with two chip marks and no card mark S is never empty
 --   reaches      any card may be given with 11 that reaches a lawful block; reached-by: and only such a card
@@ -9,10 +10,10 @@
 --   by-card      under a card mark "card", with its number, is said where a byte of that card is changed; card-told: and only there;
 --                chips-told: "chips" only where none is
 --   clean-only   a lawful block is the one member of its S; clean-reads: it reads as clean; clean-lawful: only such a block does
-use mathlib.Core.Logic.{_≢_, _⊎_, inl, inr}
+use mathlib.Core.Logic.{_≢_, _⊎_, inl, inr, _↔_}
 use mathlib.Core.Path.{_≡_, refl, sym, ap, _∙_, subst}
 use mathlib.Core.List.{List, [], _∷_, _++_}
-use Prim.Native.Nat.{ℕ, zero, suc, _+_, _/_, _<_, _≤_}
+use Prim.Native.Nat.{ℕ, _+_, _/_, _<_}
 use native.Mathlib.Omega.{arith}
 use lib.Dec.{T}
 use lib.ListN.{length, length-append}
@@ -21,30 +22,21 @@ use Rattle.base.proofs.Few.{few-length, few-more}
 use Rattle.base.specs.Base.{In, Few}
 use Rattle.base.proofs.Tests.{same}
 use Rattle.answer.specs.Answer.{Answer, done, clean, in-chips, in-card, counted, refused, refused-card, number}
-use Rattle.code.specs.Block.{byte, Block, Lawful, DifferOnly, OneMember}
+use Rattle.code.specs.Block.{byte, Block, Lawful, DifferOnly, OneMember, TwoMembers}
 use Rattle.code.specs.Labels.{LabelSet}
 use Rattle.code.specs.Reach.{rules, keep, Reached}
-use Rattle.code.proofs.Few.{few-of, widen, between}
+use Rattle.code.proofs.Few.{few-of, keep-few, widen, between}
 use Rattle.code.proofs.Reach.{fits, closed, reached-few}
 use Rattle.code.proofs.Closed.{fits-two}
 use Rattle.code.proofs.Unique.{alike}
 use Rattle.marks.specs.Marks.{CardInRange}
 use Rattle.marks.specs.declared.CardMark.{CardMark}
 use Rattle.marks.specs.declared.CardMark.the-variants.{None, Card}
-use Rattle.reading.specs.Allowed.{further, further-beside, ChipKind, CardKind, BesideKind, Allowed, CardChanged, OfChipKind}
-use Rattle.reading.specs.Reading.{S, Reaches, Reads}
+use Rattle.reading.specs.Allowed.{u, further-beside, ChipKind, CardKind, BesideUpTo, Allowed, CardChanged, OfChipKind}
+use Rattle.reading.specs.Reading.{S, Reaches, ReadsBy, Reads}
 use Rattle.base.proofs.Lists.{append-in}
-use Rattle.reading.proofs.Searches.{covered, covers}
-
--- the marked chips and the further ones are two at most; so are those of two changes beside a card
-with-further : (u : ℕ) → u ≤ 2 → u + further u ≤ 2
-with-further zero h = omega arith
-with-further (suc zero) h = omega arith
-with-further (suc (suc u)) h = omega arith
-
-with-both : (u : ℕ) → u ≤ 2 → u + (further-beside u + further-beside u) ≤ 2
-with-both zero h = omega arith
-with-both (suc u) h = omega arith
+use Rattle.reading.proofs.Beside.{beside-both, by-kept, kind-kept, kind-from, in-kept, in-from}
+use Rattle.reading.proofs.Searches.{further-most, covered, covers}
 
 -- ---- what two cards reach alike
 pub apart : (ps b x : List ℕ) (i j : ℕ) → i ≢ j → CardKind i ps b x → CardKind j ps b x → DifferOnly (λ p. In p ps) b x
@@ -98,7 +90,7 @@ module _ (ls : List ℕ) (ok : LabelSet ls) (ps : List ℕ) (few : Few rules ps)
   chip-only : (x y : List ℕ) → Block x → Lawful ls x → ChipKind ps b x → S ls None ps b y → x ≡ y
   chip-only x y bx lx (fs, n, h) s =
       let w = few-of (ps ++ fs) in
-      let qs = few-more (length (ps ++ fs)) rules (w .0) (omega (arith, length-append ps fs, n, with-further (length ps) (few-length rules ps few))) (w .1) in
+      let qs = few-more (length (ps ++ fs)) rules (w .0) (omega (arith, length-append ps fs, n, further-most (length ps) (few-length rules ps few))) (w .1) in
       let v = covered ls ps b y s in
       alike ls ok (v .0) (v .1) (w .0) qs x y bx lx (s .block) (s .lawful)
       (widen (λ p. (In p ps ⊎ In p fs) ⊎ ((p / 9 ≡ v .0) ⊎ In p ps)) (λ p. (p / 9 ≡ v .0) ⊎ In p (w .0)) x y (each (v .0) (w .0) (w .2))
@@ -111,26 +103,30 @@ module _ (ls : List ℕ) (ok : LabelSet ls) (ps : List ℕ) (few : Few rules ps)
       each j qs c p l (inr (inr i)) = inr (c p l (append-in p ps fs (inl i)))
 
   pub card-one : (m : ℕ) → m < 5 → (x y : List ℕ) → S ls (Card m) ps b x → S ls (Card m) ps b y → x ≡ y
-  card-one m hm x y s t = go (s .allowed) (t .allowed)
+  card-one m hm x y s t = go (by-kept m ps b x (further-beside (u (Card m) ps)) (s .allowed)) (by-kept m ps b y (further-beside (u (Card m) ps)) (t .allowed))
     where
-      go : BesideKind m ps b x → BesideKind m ps b y → x ≡ y
+      -- the marked chips off the card
+      qs : List ℕ
+      qs = keep m ps
+
+      go : BesideUpTo (further-beside (length qs)) m qs b x → BesideUpTo (further-beside (length qs)) m qs b y → x ≡ y
       go (fs, n, h) (gs, k, g) =
-          let most = with-both (length ps) (few-length rules ps few) in
-          let w = few-of (ps ++ (fs ++ gs)) in
-          let qs = few-more (length (ps ++ (fs ++ gs))) rules (w .0) (omega (arith, length-append ps (fs ++ gs), length-append fs gs, n, k, most)) (w .1) in
-          alike ls ok m hm (w .0) qs x y (s .block) (s .lawful) (t .block) (t .lawful)
-          (widen (λ p. ((p / 9 ≡ m) ⊎ (In p ps ⊎ In p fs)) ⊎ ((p / 9 ≡ m) ⊎ (In p ps ⊎ In p gs))) (λ p. (p / 9 ≡ m) ⊎ In p (w .0)) x y
+          let most = beside-both (length qs) (few-length rules qs (keep-few rules m ps few)) in
+          let w = few-of (qs ++ (fs ++ gs)) in
+          let rs = few-more (length (qs ++ (fs ++ gs))) rules (w .0) (omega (arith, length-append qs (fs ++ gs), length-append fs gs, n, k, most)) (w .1) in
+          alike ls ok m hm (w .0) rs x y (s .block) (s .lawful) (t .block) (t .lawful)
+          (widen (λ p. ((p / 9 ≡ m) ⊎ (In p qs ⊎ In p fs)) ⊎ ((p / 9 ≡ m) ⊎ (In p qs ⊎ In p gs))) (λ p. (p / 9 ≡ m) ⊎ In p (w .0)) x y
           (each (w .0) (w .2))
-          (between (λ p. (p / 9 ≡ m) ⊎ (In p ps ⊎ In p fs)) (λ p. (p / 9 ≡ m) ⊎ (In p ps ⊎ In p gs)) b x y h g))
+          (between (λ p. (p / 9 ≡ m) ⊎ (In p qs ⊎ In p fs)) (λ p. (p / 9 ≡ m) ⊎ (In p qs ⊎ In p gs)) b x y h g))
         where
-          each : (qs : List ℕ) → ((p : ℕ) → p < 45 → In p (ps ++ (fs ++ gs)) → In p qs) → (p : ℕ) → p < 45
-              → ((p / 9 ≡ m) ⊎ (In p ps ⊎ In p fs)) ⊎ ((p / 9 ≡ m) ⊎ (In p ps ⊎ In p gs)) → (p / 9 ≡ m) ⊎ In p qs
-          each qs c p l (inl (inl e)) = inl e
-          each qs c p l (inl (inr (inl i))) = inr (c p l (append-in p ps (fs ++ gs) (inl i)))
-          each qs c p l (inl (inr (inr i))) = inr (c p l (append-in p ps (fs ++ gs) (inr (append-in p fs gs (inl i)))))
-          each qs c p l (inr (inl e)) = inl e
-          each qs c p l (inr (inr (inl i))) = inr (c p l (append-in p ps (fs ++ gs) (inl i)))
-          each qs c p l (inr (inr (inr i))) = inr (c p l (append-in p ps (fs ++ gs) (inr (append-in p fs gs (inr i)))))
+          each : (rs : List ℕ) → ((p : ℕ) → p < 45 → In p (qs ++ (fs ++ gs)) → In p rs) → (p : ℕ) → p < 45
+              → ((p / 9 ≡ m) ⊎ (In p qs ⊎ In p fs)) ⊎ ((p / 9 ≡ m) ⊎ (In p qs ⊎ In p gs)) → (p / 9 ≡ m) ⊎ In p rs
+          each rs c p l (inl (inl e)) = inl e
+          each rs c p l (inl (inr (inl i))) = inr (c p l (append-in p qs (fs ++ gs) (inl i)))
+          each rs c p l (inl (inr (inr i))) = inr (c p l (append-in p qs (fs ++ gs) (inr (append-in p fs gs (inl i)))))
+          each rs c p l (inr (inl e)) = inl e
+          each rs c p l (inr (inr (inl i))) = inr (c p l (append-in p qs (fs ++ gs) (inl i)))
+          each rs c p l (inr (inr (inr i))) = inr (c p l (append-in p qs (fs ++ gs) (inr (append-in p fs gs (inr i)))))
 
   pub chip-one : (c : CardMark) → CardInRange c → (x : List ℕ) → S ls c ps b x → OfChipKind c ps b x → OneMember (S ls c ps b) x
   chip-one None r x s h = (s, λ y t. sym (chip-only x y (s .block) (s .lawful) h t))
@@ -160,6 +156,38 @@ module _ (ls : List ℕ) (ok : LabelSet ls) (ps : List ℕ) (few : Few rules ps)
 
 pub clean-lawful : (ls : List ℕ) (c : CardMark) (ps b out out′ : List ℕ) → Reads ls c ps b out clean out′ → Lawful ls b
 clean-lawful ls c ps b out out′ h = subst (Lawful ls) (h .1) (h .0 .0 .lawful)
+
+-- ---- the marks on the marked card
+-- under a card mark, two sets with the same members and the same kinds read alike, where there are not two
+module _ (ls : List ℕ) (j : ℕ) (ps qs b out : List ℕ) (P Q K L : List ℕ → Type 0) (to : (x : List ℕ) → P x → Q x) (from : (x : List ℕ) → Q x → P x)
+    (chip-to : (x : List ℕ) → K x → L x) (chip-from : (x : List ℕ) → L x → K x) (one : TwoMembers P → ⊥) where
+  reads-alike : (a : Answer) (x : List ℕ) → ReadsBy P K ls (Card j) ps b out a x → ReadsBy Q L ls (Card j) qs b out a x
+  reads-alike clean x ((h, only), e) = ((to x h, λ y t. only y (from y t)), e)
+  reads-alike (in-chips n) x ((h, only), ne, e, k) = ((to x h, λ y t. only y (from y t)), ne, e, chip-to x k)
+  reads-alike (in-card i n) x ((h, only), e, k, on) = ((to x h, λ y t. only y (from y t)), e, (λ l. k (chip-from x l)), on)
+  reads-alike (refused n) x (e, none, z) = (e, (λ y t. none y (from y t)), z)
+  reads-alike (refused-card n i) x (e, two, r, z) = absurd (one two)
+  reads-alike done x h = absurd h
+  reads-alike (counted v w y z t) x h = absurd h
+
+module _ (ls : List ℕ) (ok : LabelSet ls) (j : ℕ) (hj : j < 5) (b : List ℕ) where
+  pub not-several : (ps : List ℕ) → Few rules ps → TwoMembers (S ls (Card j) ps b) → ⊥
+  not-several ps few (x, y, s, t, ne) = ne (card-one ls ok ps few b j hj x y s t)
+
+  pub as-unmarked : (ps : List ℕ) → Few rules ps → (out : List ℕ) (a : Answer) (x : List ℕ)
+      → Reads ls (Card j) ps b out a x ↔ Reads ls (Card j) (keep j ps) b out a x
+  as-unmarked ps few out a x = (
+    reads-alike ls j ps qs b out (S ls (Card j) ps b) (S ls (Card j) qs b) (OfChipKind (Card j) ps b) (OfChipKind (Card j) qs b)
+        (λ y. in-kept j ps b y ls) (λ y. in-from j ps b y ls) (λ y k. (kind-kept j ps b y (k .0), k .1)) (λ y k. (kind-from j ps b y (k .0), k .1))
+        (not-several ps few) a x,
+    reads-alike ls j qs ps b out (S ls (Card j) qs b) (S ls (Card j) ps b) (OfChipKind (Card j) qs b) (OfChipKind (Card j) ps b)
+        (λ y. in-from j ps b y ls) (λ y. in-kept j ps b y ls) (λ y k. (kind-from j ps b y (k .0), k .1)) (λ y k. (kind-kept j ps b y (k .0), k .1))
+        (not-several qs (keep-few rules j ps few)) a x,
+  )
+    where
+      -- the marked chips off the card
+      qs : List ℕ
+      qs = keep j ps
 
 -- ---- the kind under a card mark
 module _ (ls : List ℕ) (j : ℕ) (ps b out out′ : List ℕ) where

@@ -3,7 +3,7 @@
 --   listed-limit, beside-limit   a change at listed positions; and on one card besides
 --   chips-limit    "chips n", under at most two chip marks
 --   card-limit     "card j, n", under at most two chip marks
-use Prim.Native.Nat.{ℕ, zero, suc, _+_, _/_, _<_, _≤_}
+use Prim.Native.Nat.{ℕ, _+_, _/_, _<_, _≤_}
 use mathlib.Core.Path.{_≡_, refl, ap}
 use mathlib.Core.Logic.{_≢_, _⊎_, inl, inr, ⊎-elim}
 use mathlib.Core.Bool.{Bool, true, false, _&&_, not}
@@ -17,11 +17,15 @@ use Rattle.base.proofs.Lists.{in-is-in, append-in}
 use Rattle.base.proofs.Tests.{same}
 use Rattle.base.proofs.Tally.{tally-either, tally-in, tally-card, tally-never, at-most, one-le}
 use Rattle.code.specs.Block.{byte, DifferOnly, changes}
+use Rattle.code.specs.Reach.{keep}
+use Rattle.code.proofs.Few.{keep-short}
 use Rattle.marks.specs.Marks.{CardInRange}
 use Rattle.marks.specs.declared.CardMark.{CardMark}
 use Rattle.marks.specs.declared.CardMark.the-variants.{None, Card}
-use Rattle.reading.specs.Allowed.{further, further-beside, Allowed, OfChipKind}
+use Rattle.reading.specs.Allowed.{u, further, further-beside, BesideUpTo, Allowed, OfChipKind}
 use Rattle.reading.specs.Reading.{OnCard}
+use Rattle.reading.proofs.Beside.{beside-most, by-kept}
+use Rattle.reading.proofs.Searches.{further-most}
 
 module _ (b x : List ℕ) where
   moved : ℕ → Bool
@@ -60,18 +64,8 @@ module _ (b x : List ℕ) where
       there p (inr (inl e)) = inr (inl (ap (λ (t : Bool). t && true) (eq-eqb (p / 9) j e)))
       there p (inr (inr i)) = inr (inr i)
 
--- marked chips and further ones
-further-2 : (u : ℕ) → u ≤ 2 → u + further u ≤ 2
-further-2 zero h = omega arith
-further-2 (suc zero) h = omega arith
-further-2 (suc (suc u)) h = omega arith
-
-beside-2 : (u : ℕ) → u ≤ 2 → u + further-beside u ≤ 2
-beside-2 zero h = omega arith
-beside-2 (suc u) h = omega arith
-
-module _ (ps b x : List ℕ) (few : length ps ≤ 2) where
-  -- none of them on card j, where no byte of it is changed
+-- of a change by marked chips and further ones, none is on card j where no byte of it is changed
+module _ (ps b x : List ℕ) where
   off-card : (j : ℕ) (fs : List ℕ) → ((p : ℕ) → p < 45 → p / 9 ≡ j → byte b p ≢ byte x p → ⊥) → (p : ℕ) → p < 45
       → (byte b p ≡ byte x p) ⊎ (byte b p ≢ byte x p) → (byte b p ≡ byte x p) ⊎ ((p / 9 ≡ j) ⊎ (In p ps ⊎ In p fs)) → (byte b p ≡ byte x p) ⊎ In p (ps ++ fs)
   off-card j fs off p h (inl e) w = inl e
@@ -79,28 +73,39 @@ module _ (ps b x : List ℕ) (few : length ps ≤ 2) where
   off-card j fs off p h (inr e) (inr (inl q)) = absurd (off p h q e)
   off-card j fs off p h (inr e) (inr (inr i)) = inr (append-in p ps fs i)
 
+module _ (ps b x : List ℕ) (few : length ps ≤ 2) where
+  kept-few : (j : ℕ) → length (keep j ps) ≤ 2
+  kept-few j = omega (arith, keep-short j ps, few)
+
   pub chips-limit : (c : CardMark) → OfChipKind c ps b x → changes b x ≤ 2
   chips-limit None (fs, n, d) = omega (
     arith,
     listed-limit b x (ps ++ fs) (λ p h. ⊎-elim inl (λ i. inr (append-in p ps fs i)) (d p h)),
     length-append ps fs,
-    further-2 (length ps) few,
+    further-most (length ps) few,
     n,
   )
-  chips-limit (Card j) ((fs, n, d), off) = omega (
-    arith,
-    listed-limit b x (ps ++ fs) (λ p h. off-card j fs (λ p h q e. off (p, h, q, e)) p h (same (byte b p) (byte x p)) (d p h)),
-    length-append ps fs,
-    beside-2 (length ps) few,
-    n,
-  )
+  chips-limit (Card j) (h, off) = go (by-kept j ps b x (further-beside (u (Card j) ps)) h)
+    where
+      go : BesideUpTo (further-beside (length (keep j ps))) j (keep j ps) b x → changes b x ≤ 2
+      go (fs, n, d) = omega (
+        arith,
+        listed-limit b x (keep j ps ++ fs)
+            (λ p h. off-card (keep j ps) b x j fs (λ p h q e. off (p, h, q, e)) p h (same (byte b p) (byte x p)) (d p h)),
+        length-append (keep j ps) fs,
+        beside-most (length (keep j ps)) (kept-few j),
+        n,
+      )
 
   pub card-limit : (c : CardMark) → CardInRange c → (j : ℕ) → Allowed c ps b x → OnCard c j ps b x → changes b x ≤ 11
   card-limit None r j a (hj, d) = omega (arith, beside-limit b x j hj ps d)
-  card-limit (Card m) r j (fs, n, d) o = omega (
-    arith,
-    beside-limit b x m r (ps ++ fs) (λ p h. ⊎-elim inl (λ w. inr (⊎-elim inl (λ i. inr (append-in p ps fs i)) w)) (d p h)),
-    length-append ps fs,
-    beside-2 (length ps) few,
-    n,
-  )
+  card-limit (Card m) r j h o = go (by-kept m ps b x (further-beside (u (Card m) ps)) h)
+    where
+      go : BesideUpTo (further-beside (length (keep m ps))) m (keep m ps) b x → changes b x ≤ 11
+      go (fs, n, d) = omega (
+        arith,
+        beside-limit b x m r (keep m ps ++ fs) (λ p h. ⊎-elim inl (λ w. inr (⊎-elim inl (λ i. inr (append-in p (keep m ps) fs i)) w)) (d p h)),
+        length-append (keep m ps) fs,
+        beside-most (length (keep m ps)) (kept-few m),
+        n,
+      )

@@ -1,24 +1,26 @@
 -- S as the union of searches: of a card and the marked chips, for each of five cards; or beside a marked card.
 --
---   further-one                     at most one further chip is ever allowed
+--   further-one, further-most       at most one further chip is ever allowed, and with the marked chips two at most
 --   covered, covers                 with no card marked: what the five cards reach, with the marked chips
 --   beside-chips                    the chips of a search beside a marked card: the marked ones, or with none marked one further chip
---   covered-beside, covers-beside   with a card marked: what those searches reach
+--   some-beside                     a change that such a search looks for, every marked chip being counted
+--   covered-beside, covers-beside   with a card marked, and no chip of it: what those searches reach
 use mathlib.Core.Logic.{_⊎_, inl, inr}
 use mathlib.Core.Path.{_≡_, ap, subst}
 use mathlib.Core.List.{List, [], _∷_}
-use Prim.Native.Nat.{ℕ, zero, suc, _/_, _<_, _≤_}
+use Prim.Native.Nat.{ℕ, zero, suc, _+_, _/_, _<_, _≤_}
 use native.Mathlib.Decide.{decLt}
 use native.Mathlib.Omega.{arith}
 use lib.ListN.{length}
 use Rattle.base.proofs.Few.{few-one}
 use Rattle.base.specs.Base.{In, Few}
 use Rattle.code.specs.Block.{DifferOnly}
-use Rattle.code.specs.Reach.{rules, Reached}
+use Rattle.code.specs.Reach.{rules, Off, Reached}
 use Rattle.code.proofs.Few.{widen}
 use Rattle.marks.specs.declared.CardMark.the-variants.{None, Card}
-use Rattle.reading.specs.Allowed.{further, BesideKind, Allowed}
+use Rattle.reading.specs.Allowed.{further, further-beside, BesideUpTo, Allowed}
 use Rattle.reading.specs.Reading.{S}
+use Rattle.reading.proofs.Beside.{by-off, from-off}
 
 -- at most one further chip
 at-most-one : (fs : List ℕ) → length fs ≤ 1 → (f : ℕ) × (f < 45) × ((p : ℕ) → p < 45 → In p fs → p ≡ f)
@@ -38,10 +40,15 @@ at-most-one (f ∷ []) h = go (decLt f 45)
         each p z (inr i) = absurd i
 at-most-one (f ∷ g ∷ fs) h = absurd (omega arith)
 
-pub further-one : (u : ℕ) → further u ≤ 1
+pub further-one : (n : ℕ) → further n ≤ 1
 further-one zero = omega arith
 further-one (suc zero) = omega arith
-further-one (suc (suc u)) = omega arith
+further-one (suc (suc n)) = omega arith
+
+pub further-most : (n : ℕ) → n ≤ 2 → n + further n ≤ 2
+further-most zero h = omega arith
+further-most (suc zero) h = omega arith
+further-most (suc (suc n)) h = omega arith
 
 abbrev pub beside-chips : List ℕ → ℕ → List ℕ
 beside-chips [] f = f ∷ []
@@ -72,7 +79,7 @@ module _ (ls ps b y : List ℕ) where
 
 -- ---- card m marked
 module _ (m : ℕ) (b y : List ℕ) where
-  some-beside : (ps : List ℕ) → BesideKind m ps b y → (f : ℕ) × (f < 45) × DifferOnly (λ p. (p / 9 ≡ m) ⊎ In p (beside-chips ps f)) b y
+  pub some-beside : (ps : List ℕ) → BesideUpTo (further-beside (length ps)) m ps b y → (f : ℕ) × (f < 45) × DifferOnly (λ p. (p / 9 ≡ m) ⊎ In p (beside-chips ps f)) b y
   some-beside [] (fs, l, h) =
       let w = at-most-one fs l in
       (w .0, w .1, widen (λ p. (p / 9 ≡ m) ⊎ (⊥ ⊎ In p fs)) (λ p. (p / 9 ≡ m) ⊎ In p (w .0 ∷ [])) b y (each (w .0) (w .2)) h)
@@ -90,7 +97,7 @@ module _ (m : ℕ) (b y : List ℕ) where
       each p z (inr (inr i)) = absurd i
   some-beside (q ∷ ps) (f ∷ fs, l, h) = absurd (omega arith)
 
-  beside-some : (ps : List ℕ) (f : ℕ) → DifferOnly (λ p. (p / 9 ≡ m) ⊎ In p (beside-chips ps f)) b y → BesideKind m ps b y
+  beside-some : (ps : List ℕ) (f : ℕ) → DifferOnly (λ p. (p / 9 ≡ m) ⊎ In p (beside-chips ps f)) b y → BesideUpTo (further-beside (length ps)) m ps b y
   beside-some [] f h = (f ∷ [], omega arith, widen (λ p. (p / 9 ≡ m) ⊎ In p (f ∷ [])) (λ p. (p / 9 ≡ m) ⊎ (⊥ ⊎ In p (f ∷ []))) b y each h)
     where
       each : (p : ℕ) → p < 45 → (p / 9 ≡ m) ⊎ In p (f ∷ []) → (p / 9 ≡ m) ⊎ (⊥ ⊎ In p (f ∷ []))
@@ -102,10 +109,11 @@ module _ (m : ℕ) (b y : List ℕ) where
       each p z (inl e) = inl e
       each p z (inr i) = inr (inl i)
 
-  pub covered-beside : (ls ps : List ℕ) → S ls (Card m) ps b y → (f : ℕ) × (f < 45) × Reached ls m (beside-chips ps f) b y
-  covered-beside ls ps s =
-      let w = some-beside ps (s .allowed) in
-      (w .0, w .1, record { block = s .block; lawful = s .lawful; only = w .2 })
+  module _ (ls ps : List ℕ) (off : Off m ps) where
+    pub covered-beside : S ls (Card m) ps b y → (f : ℕ) × (f < 45) × Reached ls m (beside-chips ps f) b y
+    covered-beside s =
+        let w = some-beside ps (by-off m ps b y off (s .allowed)) in
+        (w .0, w .1, record { block = s .block; lawful = s .lawful; only = w .2 })
 
-  pub covers-beside : (ls ps : List ℕ) (f : ℕ) → Reached ls m (beside-chips ps f) b y → S ls (Card m) ps b y
-  covers-beside ls ps f h = record { block = h .block; lawful = h .lawful; allowed = beside-some ps f (h .only) }
+    pub covers-beside : (f : ℕ) → Reached ls m (beside-chips ps f) b y → S ls (Card m) ps b y
+    covers-beside f h = record { block = h .block; lawful = h .lawful; allowed = from-off m ps b y off (beside-some ps f (h .only)) }

@@ -1,10 +1,13 @@
 -- The set S, and what a reading says. Demand 3, first sentence; document 01, "What a reading says".
 --
+--   LawfulIn            the lawful blocks that P holds of
 --   S labels c ps b     the lawful blocks that differ from b only as the marks allow
 --   Reaches             a card-kind change of card j reaches a lawful block
 --   OnCard              the card that a corrected block is told by
 --   reading-answer      the answer that a Reading stands for
---   Reads               what a reading of b says, out being what was lent for output and out′ what it holds then
+--   ReadsBy             what a reading of b says, out being what was lent for output and out′ what it holds then: of any set P of
+--                       blocks, K telling those that a change of the chip kind reaches
+--   Reads               the same of S
 --   ReadsUnder          the same under a mark record, with the built-in labels
 use mathlib.Core.Path.{_≡_}
 use mathlib.Core.Logic.{_≢_}
@@ -22,10 +25,13 @@ use Rattle.reading.specs.declared.Kind.the-variants.{Clean, Chips, OneCa
 use Rattle.reading.specs.declared.Reading.{Reading}
 use Rattle.reading.specs.declared.Reading.the-variants.{Corrected, Several, Refused}
 
-pub record S (labels : List ℕ) (c : CardMark) (ps b x : List ℕ) : Type 0 where
+pub record LawfulIn (labels : List ℕ) (P : List ℕ → Type 0) (x : List ℕ) : Type 0 where
   pub block : Block x
   pub lawful : Lawful labels x
-  pub allowed : Allowed c ps b x
+  pub allowed : P x
+
+abbrev pub S : List ℕ → CardMark → List ℕ → List ℕ → List ℕ → Type 0
+S labels c ps b x = LawfulIn labels (Allowed c ps b) x
 
 -- "one card whose card-kind change reaches a lawful block"
 abbrev pub Reaches : List ℕ → List ℕ → List ℕ → ℕ → Type 0
@@ -44,16 +50,19 @@ reading-answer (Corrected (OneCard j n)) = in-card j n
 reading-answer (Several j) = refused-card 11 j
 reading-answer (Refused n) = refused n
 
--- corrected: the output is the one member of S, told by its kind, n being the number of bytes changed;
--- 10: S is empty; 11: it has two members or more; and the output is as before
+-- corrected: the output is the one member, told by its kind, n being the number of bytes changed;
+-- 10: there is no member; 11: there are two members or more; and the output is as before
+abbrev pub ReadsBy : (List ℕ → Type 0) → (List ℕ → Type 0) → List ℕ → CardMark → List ℕ → List ℕ → List ℕ → Answer → List ℕ → Type 0
+ReadsBy P K labels c ps b out clean out′ = OneMember P out′ × (out′ ≡ b)
+ReadsBy P K labels c ps b out (in-chips n) out′ = OneMember P out′ × (out′ ≢ b) × (n ≡ changes b out′) × K out′
+ReadsBy P K labels c ps b out (in-card j n) out′ = OneMember P out′ × (n ≡ changes b out′) × (K out′ → ⊥) × OnCard c j ps b out′
+ReadsBy P K labels c ps b out (refused n) out′ = (n ≡ 10) × NoMember P × (out′ ≡ out)
+ReadsBy P K labels c ps b out (refused-card n j) out′ = (n ≡ 11) × TwoMembers P × Reaches labels ps b j × (out′ ≡ out)
+ReadsBy P K labels c ps b out done out′ = ⊥
+ReadsBy P K labels c ps b out (counted v w x y z) out′ = ⊥
+
 abbrev pub Reads : List ℕ → CardMark → List ℕ → List ℕ → List ℕ → Answer → List ℕ → Type 0
-Reads labels c ps b out clean out′ = OneMember (S labels c ps b) out′ × (out′ ≡ b)
-Reads labels c ps b out (in-chips n) out′ = OneMember (S labels c ps b) out′ × (out′ ≢ b) × (n ≡ changes b out′) × OfChipKind c ps b out′
-Reads labels c ps b out (in-card j n) out′ = OneMember (S labels c ps b) out′ × (n ≡ changes b out′) × (OfChipKind c ps b out′ → ⊥) × OnCard c j ps b out′
-Reads labels c ps b out (refused n) out′ = (n ≡ 10) × NoMember (S labels c ps b) × (out′ ≡ out)
-Reads labels c ps b out (refused-card n j) out′ = (n ≡ 11) × TwoMembers (S labels c ps b) × Reaches labels ps b j × (out′ ≡ out)
-Reads labels c ps b out done out′ = ⊥
-Reads labels c ps b out (counted v w x y z) out′ = ⊥
+Reads labels c ps b out a out′ = ReadsBy (S labels c ps b) (OfChipKind c ps b) labels c ps b out a out′
 
 abbrev pub ReadsUnder : Marks → List ℕ → List ℕ → Answer → List ℕ → Type 0
 ReadsUnder m b out a out′ = Reads built-in (m .card) (marked-chips m) b out a out′

@@ -3,7 +3,7 @@
 --   only b x f      b and x differ only where f passes
 --   block-by        x is a block; lawful-by: and lawful
 --   fit b ps j      a change of card j and of the chips ps reaches a lawful block
---   chips-row       corrected in chips; card-row: under a card mark, on that card
+--   chips-row       corrected in chips; under a card mark, card-row: on that card; beside-row: in chips, all off it
 --   only-card       no card but i reaches a lawful block
 --   search-row      corrected on the one card that does
 --   several-row     several: zeros, by card i, and what card j reaches, which keeps a byte of b that is not 0
@@ -15,21 +15,21 @@ use Prim.Native.Nat.{ℕ, _/_, _<_, _≤_}
 use native.Mathlib.Omega.{arith}
 use lib.Dec.{T, T-not, eqb, eqb→eq, ltb, ltb→lt}
 use lib.ListN.{length, take}
-use borrow.Author.Tests.{eqb-false}
+use borrow.Author.Tests.{eq-eqb, eqb-false}
 use Rattle.base.specs.Base.{In, is-in, Few}
 use Rattle.base.proofs.Tests.{either, either-cases, every, every-at}
 use Rattle.base.proofs.Lists.{in-is-in, is-in-in}
 use Rattle.base.proofs.Tally.{clash}
 use Rattle.answer.specs.Answer.{in-chips, in-card}
 use Rattle.field.specs.Field.{sum, _·_}
-use Rattle.code.specs.Block.{byte, position, Block, DifferOnly, Stored, changes, TwoMembers, zeros}
+use Rattle.code.specs.Block.{byte, position, Block, DifferOnly, Stored, changes, OneMember, TwoMembers, zeros}
 use Rattle.code.specs.Labels.{built-in}
 use Rattle.code.specs.Reach.{rules, keep, Reached}
 use Rattle.code.proofs.BuiltIn.{figures, in-figures, built-in-set}
 use Rattle.code.proofs.Reach.{fits, closed, candidate-few, reached-few}
 use Rattle.code.proofs.Members.{zero-stored}
 use Rattle.marks.specs.declared.CardMark.the-variants.{None, Card}
-use Rattle.reading.specs.Allowed.{further, further-beside, ChipKind}
+use Rattle.reading.specs.Allowed.{u, further, further-beside, ChipKind, BesideKind, CardChanged}
 use Rattle.reading.specs.Reading.{S, Reaches}
 use Rattle.reading.proofs.Searches.{covered, covers}
 use Rattle.reading.proofs.Facts.{chip-one, card-one}
@@ -105,19 +105,38 @@ module _ (b : List ℕ) (bb : Block b) (ps : List ℕ) (few : Few rules ps) wher
       s : S built-in None ps b zeros
       s = record { block = zero-stored built-in .block; lawful = zero-stored built-in .lawful; allowed = inl k }
 
-  pub card-row : (j : ℕ) → j < 5 → {r y : List ℕ} → Stored built-in r y → (fs : List ℕ) → length fs ≤ further-beside (length ps)
-      → T (only b y (λ p. either (eqb (p / 9) j) (either (is-in p ps) (is-in p fs)))) → (p : ℕ) → p < 45 → p / 9 ≡ j → eqb (byte b p) (byte y p) ≡ false
-      → (n : ℕ) → T (eqb n (changes b y)) → Exactly (Card j) ps b (corrected (in-card j n) y)
-  card-row j hj {r} {y} st fs l t p hp e ne n c =
-      one-answer (Card j) ps b (in-card j n) y refl (λ e. omega arith)
-      (λ out. ((s, λ z g. card-one built-in built-in-set ps few b j hj z y g s), eqb→eq _ _ c, (λ k. k .1 (p, hp, e, eqb-false _ _ ne)), refl))
-    where
-      s : S built-in (Card j) ps b y
-      s = record {
-        block = st .block;
-        lawful = st .lawful;
-        allowed = (fs, l, within b y (λ p. or (equal (p / 9) j) (or (listed p ps) (listed p fs))) t);
-      }
+  -- under a card mark: y, by a change of card j, of the marked chips and of the further chips fs
+  module _ (j : ℕ) (hj : j < 5) {r y : List ℕ} (st : Stored built-in r y) (fs : List ℕ) (l : length fs ≤ further-beside (u (Card j) ps))
+      (t : T (only b y (λ p. either (eqb (p / 9) j) (either (is-in p ps) (is-in p fs))))) where
+    by-beside : BesideKind j ps b y
+    by-beside = (fs, l, within b y (λ p. or (equal (p / 9) j) (or (listed p ps) (listed p fs))) t)
+
+    one-beside : OneMember (S built-in (Card j) ps b) y
+    one-beside = (s, λ z g. card-one built-in built-in-set ps few b j hj z y g s)
+      where
+        s : S built-in (Card j) ps b y
+        s = record { block = st .block; lawful = st .lawful; allowed = by-beside }
+
+    pub card-row : (p : ℕ) → p < 45 → p / 9 ≡ j → eqb (byte b p) (byte y p) ≡ false → (n : ℕ) → T (eqb n (changes b y))
+        → Exactly (Card j) ps b (corrected (in-card j n) y)
+    card-row p hp e ne n c =
+        one-answer (Card j) ps b (in-card j n) y refl (λ e. omega arith)
+        (λ out. (one-beside, eqb→eq _ _ c, (λ k. k .1 (p, hp, e, eqb-false _ _ ne)), refl))
+
+    -- no byte of card j is changed
+    pub beside-row : T (every (λ p. either (not (eqb (p / 9) j)) (eqb (byte b p) (byte y p))) 45) → (p : ℕ) → eqb (byte y p) (byte b p) ≡ false
+        → (n : ℕ) → T (eqb n (changes b y)) → Exactly (Card j) ps b (corrected (in-chips n) y)
+    beside-row o p ne n c =
+        one-answer (Card j) ps b (in-chips n) y refl (λ e. omega arith)
+        (λ out. (one-beside, (λ e. eqb-false _ _ ne (ap (λ (x : List ℕ). byte x p) e)), eqb→eq _ _ c, (by-beside, kept)))
+      where
+        kept : CardChanged j b y → ⊥
+        kept (p, hp, e, d) = go (either-cases (not (eqb (p / 9) j)) (eqb (byte b p) (byte y p))
+            (every-at (λ p. either (not (eqb (p / 9) j)) (eqb (byte b p) (byte y p))) 45 o p hp))
+          where
+            go : T (not (eqb (p / 9) j)) ⊎ T (eqb (byte b p) (byte y p)) → ⊥
+            go (inl h) = T-not (eqb (p / 9) j) h (subst T (sym (eq-eqb (p / 9) j e)) tt)
+            go (inr h) = d (eqb→eq _ _ h)
 
   -- ---- by the five searches
   pub reached-fits : (j : ℕ) → j < 5 → (y : List ℕ) → Reached built-in j ps b y → T (fit b ps j)

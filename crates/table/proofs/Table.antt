@@ -4,7 +4,7 @@
 --   two-chips   the change of bytes 0 and 1 is not of the chip kind
 --   also        a row, and the rows after it
 --   starred     THE TABLE
---   beside      the row after it
+--   beside      the row after it; beside-before: what it was before order 5
 use mathlib.Core.Logic.{_⊎_, inl, inr}
 use mathlib.Core.Path.{_≡_, refl}
 use mathlib.Core.List.{List, [], _∷_}
@@ -14,10 +14,11 @@ use lib.Dec.{T, ltb}
 use lib.ListN.{length}
 use Rattle.base.specs.Base.{In, tally, Few}
 use Rattle.base.proofs.Tests.{every}
+use Rattle.base.proofs.Few.{few-one}
 use Rattle.answer.specs.Answer.{clean}
 use Rattle.field.specs.Field.{sum, _⊕_, polynomial-product, remainder, product}
 use Rattle.field.proofs.Squares.{squared}
-use Rattle.code.specs.Block.{byte, Block, changes, zeros}
+use Rattle.code.specs.Block.{byte, Block, NoMember, changes, zeros}
 use Rattle.code.specs.Labels.{built-in}
 use Rattle.code.specs.Reach.{rules, keep}
 use Rattle.code.proofs.BuiltIn.{figures, built-in-set}
@@ -29,11 +30,12 @@ use Rattle.marks.specs.declared.CardMark.the-variants.{None, Card}
 use Rattle.marks.specs.declared.Marks.{Marks}
 use Rattle.marks.proofs.Laws.{cause-lawful, few-chips}
 use Rattle.reading.specs.Allowed.{ChipKind}
-use Rattle.reading.proofs.Searches.{covered-beside}
+use Rattle.reading.specs.Before.{SBefore}
+use Rattle.reading.proofs.Searches.{some-beside}
 use Rattle.reading.proofs.Facts.{clean-reads}
-use Rattle.table.specs.Table.{zeros-but, six, Told, Holds, StarredBlocks, BesideCard}
+use Rattle.table.specs.Table.{zeros-but, six, Told, Holds, StarredBlocks, BesideCard, BesideCardBefore}
 use Rattle.table.proofs.Settled.{Exactly, one-answer, no-member}
-use Rattle.table.proofs.Rows.{block-by, lawful-by, chips-row, card-row, reached-fits, only-card, search-row, several-row}
+use Rattle.table.proofs.Rows.{block-by, lawful-by, chips-row, card-row, beside-row, reached-fits, only-card, search-row, several-row}
 
 holds : {m : Marks} {b : List ℕ} {told : Told} → marks-cause m ≡ 0 → length b ≡ 45 → T (every (λ p. ltb (byte b p) 256) 45)
     → (Block b → Few rules (marked-chips m) → Exactly (m .card) (marked-chips m) b told) → Holds m b told
@@ -85,7 +87,19 @@ starred =
     also holds refl refl tt (λ bb few. card-row _ bb [] few 0 (omega arith) (zero-stored built-in) (9 ∷ []) (omega arith) tt 0 (omega arith) refl refl _ tt)
     also tt
 
+-- ---- the row after it
+-- chip 1 is on the marked card, so that one further chip is allowed
 pub beside : BesideCard
-unfolding figures sum _⊕_ polynomial-product remainder product squared fits eliminate.fits keep marks-cause in-range two-equal
-beside = holds refl refl tt (λ bb few.
-    no-member (Card 0) (1 ∷ []) _ (λ y s. reached-fits _ bb (1 ∷ []) few 0 (omega arith) y (covered-beside 0 _ y built-in (1 ∷ []) s .2)))
+unfolding keep changes tally marks-cause in-range two-equal
+beside = holds refl refl tt (λ bb few. beside-row _ bb (1 ∷ []) few 0 (omega arith) (zero-stored built-in) (9 ∷ []) (omega arith) tt tt 9 refl _ tt)
+
+-- as u was counted before, none was
+pub beside-before : BesideCardBefore
+unfolding figures sum _⊕_ polynomial-product remainder product squared fits eliminate.fits keep
+beside-before out = (refl, none, refl)
+  where
+    none : NoMember (SBefore built-in (Card 0) (1 ∷ []) (zeros-but ((9, 1) ∷ [])))
+    none y s =
+        let w = some-beside 0 (zeros-but ((9, 1) ∷ [])) y (1 ∷ []) (s .allowed) in
+        reached-fits (zeros-but ((9, 1) ∷ [])) (block-by _ refl tt) (1 ∷ []) (few-one 1 (omega arith)) 0 (omega arith) y
+        (record { block = s .block; lawful = s .lawful; only = w .2 })

@@ -6,7 +6,7 @@
 --   Holds            the block b under the marks m reads as the row tells, and in no other way
 --   Row              marks, bytes set, reading
 --   starred-blocks   the ten rows, in 01's order; StarredBlocks: every one holds
---   BesideCard       the row after them, the last whose marks are lawful
+--   BesideCard       the row after them, the last whose marks are lawful, as order 5 has it; BesideCardBefore: as 01 has it
 use mathlib.Core.Logic.{_↔_}
 use mathlib.Core.Path.{_≡_}
 use mathlib.Core.List.{List, [], _∷_}
@@ -20,6 +20,7 @@ use Rattle.marks.specs.Mark.{of-chips}
 use Rattle.marks.specs.declared.CardMark.the-variants.{None, Card}
 use Rattle.marks.specs.declared.Marks.{Marks}
 use Rattle.reading.specs.Reading.{Reaches, ReadsUnder}
+use Rattle.reading.specs.Before.{ReadsBefore}
 
 abbrev pub zeros-but : List (ℕ × ℕ) → List ℕ
 zeros-but [] = zeros
@@ -95,6 +96,10 @@ EveryRow (row m l told ∷ rows) = Holds m (zeros-but l) told × EveryRow rows
 abbrev pub StarredBlocks : Type 0
 StarredBlocks = EveryRow starred-blocks
 
--- "card 0, chip 1 | byte 9 = 1 | none"
+-- "card 0, chip 1 | byte 9 = 1": order 5, "becomes chips 1 with zeros"
 abbrev pub BesideCard : Type 0
-BesideCard = Holds (of-chips (Card 0) (1 ∷ [])) (zeros-but ((9, 1) ∷ [])) none
+BesideCard = Holds (of-chips (Card 0) (1 ∷ [])) (zeros-but ((9, 1) ∷ [])) (corrected (in-chips 1) zeros)
+
+-- and "none" before
+abbrev pub BesideCardBefore : Type 0
+BesideCardBefore = (out : List ℕ) → ReadsBefore built-in (Card 0) (1 ∷ []) (zeros-but ((9, 1) ∷ [])) out (refused 10) out

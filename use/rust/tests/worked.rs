@@ -15,7 +15,7 @@ pub fn zeros_with(changes: &[(usize, u8)]) -> [u8; BLOCK] {
 fn worked_blocks() {
     let three = [(0, 8), (1, 6), (2, 1)];
     type Row<'a> = ([u8; 4], &'a [(usize, u8)], Result<Corrected, u8>);
-    let rows: [Row; 12] = [
+    let rows: [Row; 15] = [
         (FRESH, &[], Ok(Corrected::Clean)),
         (FRESH, &[(20, 7)], Ok(Corrected::Chips { n: 1 })),
         (FRESH, &three, Err(11)),
@@ -46,7 +46,11 @@ fn worked_blocks() {
             &[(0, 1), (9, 1)],
             Ok(Corrected::Card { card: 0, n: 2 }),
         ),
-        ([0, 1, 1, 255], &[(9, 1)], Err(10)),
+        // Order 5: a marked chip of the marked card costs nothing; one off it does.
+        ([0, 1, 1, 255], &[(9, 1)], Ok(Corrected::Chips { n: 1 })),
+        ([0, 2, 1, 8], &[(9, 1)], Ok(Corrected::Chips { n: 1 })),
+        ([0, 1, 10, 255], &[(9, 1)], Err(10)),
+        ([0, 2, 1, 10], &[(9, 1)], Err(10)),
         ([255, 2, 0, 0], &[], Err(7)),
     ];
     for (marks, changes, wanted) in rows {

@@ -1,4 +1,4 @@
--- No chip marked beside the card: where the first sum is 0 the card alone can be wrong; else one chip by the quotient of the sums.
+-- No chip marked off the card: where the first sum is 0 the card alone can be wrong; else one chip by the quotient of the sums.
 use mathlib.Core.Path.{_≡_, sym, ap, _∙_, subst}
 use mathlib.Core.List.{List, [], _∷_}
 use Prim.Native.Nat.{ℕ, _*_, _/_}
@@ -19,7 +19,7 @@ returns c =
     let s = t .before .before .before in
     let a = s .args in
     let ls = a .labels .now in
-    λ sums e at. none-answers ls (s .pre .0) [] tt sums (a .j) (s .pre .1) (a .once) (a .squared) at
+    λ sums e at. none-answers ls (s .pre .0) sums (a .j) (s .pre .1) [] (tt, tt) (a .once) (a .squared) at
     (λ f hf. first-zero ls (a .j) (a .once) (a .squared) (t .before .if1 .taken) (t .if2 .taken) f) (c .refused .result) (c .refused .ensures)
 
 returns-2 : tie.Need-returns-2
@@ -30,7 +30,7 @@ returns-2 c =
     let a = s .args in
     let ls = a .labels .now in
     let card : 9 * a .j / 9 ≡ a .j = omega arith in
-    λ sums e at. found-answers ls (s .pre .0) [] tt sums (a .j) (s .pre .1) (a .once) (a .squared) at (9 * a .j) (omega (arith, s .pre .1)) (d .alone .result)
+    λ sums e at. found-answers ls (s .pre .0) sums (a .j) (s .pre .1) [] (tt, tt) (a .once) (a .squared) at (9 * a .j) (omega (arith, s .pre .1)) (d .alone .result)
     (subst (λ (qs : List ℕ). Solves ls (rows-of sums) (a .j) qs (a .once) (a .squared) (d .alone .result)) (on (9 * a .j) (a .j) card)
     (subst (Solves ls (rows-of sums) (a .j) [] (a .once) (a .squared)) (sym (d .alone .ensures ∙ ap (λ (z : List ℕ). rows-only z (a .j)) e))
     (solves-none ls (rows-of sums) (a .j) (s .pre .1) (a .once) (a .squared)
@@ -44,7 +44,7 @@ returns-3 c =
     let a = s .args in
     let ls = a .labels .now in
     let n = p .before .if1 .left in
-    λ sums e at. none-answers ls (s .pre .0) [] tt sums (a .j) (s .pre .1) (a .once) (a .squared) at
+    λ sums e at. none-answers ls (s .pre .0) sums (a .j) (s .pre .1) [] (tt, tt) (a .once) (a .squared) at
     (λ f hf. fails-at ls (a .j) (a .once) (a .squared) f (first-nonzero ls (a .j) (a .once) (a .squared) n)
     (p .further-chip .ensures .none (c .before .if3 .taken) f hf)) (c .refused2 .result) (c .refused2 .ensures)
 
@@ -63,7 +63,7 @@ returns-4 c =
     let a = s .args in
     let ls = a .labels .now in
     let f = p .further-chip .result in
-    λ sums e at. found-answers ls (s .pre .0) [] tt sums (a .j) (s .pre .1) (a .once) (a .squared) at f (p .further-chip .ensures .below) (d .with-one .result)
+    λ sums e at. found-answers ls (s .pre .0) sums (a .j) (s .pre .1) [] (tt, tt) (a .once) (a .squared) at f (p .further-chip .ensures .below) (d .with-one .result)
     (subst (λ (qs : List ℕ). Solves ls (rows-of sums) (a .j) qs (a .once) (a .squared) (d .with-one .result)) (off f (a .j) (d .before .if3 .left))
     (subst (λ (z : List ℕ). Solves ls z (a .j) (f ∷ []) (a .once) (a .squared) (d .with-one .result)) e (d .with-one .ensures)))
     _ (c .kind-under2 .ensures)
