@@ -2,13 +2,13 @@
 window.py, book.py.
 
 First single calls: every length of every slice, every address of the registers,
-each card mark with each set of chips, and every sort of window.  Then seeded lists of calls, register writes and hits,
-refused ones too, each from a cleared bank, registers at their start and an empty
-window.  Every answer is compared, and after every entry but a hit every byte of
-bank, output, registers (8 to 11 are the marks) and window, the interrupt and the
-proposal.  A run of 500 lists or more fails if no entry had a proposal, none had
-one hidden by a mark, at none one left the window, or none placed a chip, one of two
-chips or a card again, by call or by command.
+each card mark with each set of chips, and every sort of window.  Then seeded lists
+of calls, register writes and hits, refused ones too, each from a cleared bank,
+registers at their start and an empty window.  Every answer is compared, and after
+every entry but a hit every byte of bank, output, registers (8 to 11 are the marks)
+and window, the interrupt and the proposal.  A run of 500 lists or more fails if no
+entry had a proposal, none had one hidden by a mark, at none one left the window, or
+none placed a chip, one of two chips or a card again, by call or by command.
 
 A difference is printed with its seed and the shortest list of entries found
 that shows it, and the exit is 1.

@@ -79,7 +79,8 @@ module _ (ls ps b y : List ℕ) where
 
 -- ---- card m marked
 module _ (m : ℕ) (b y : List ℕ) where
-  pub some-beside : (ps : List ℕ) → BesideUpTo (further-beside (length ps)) m ps b y → (f : ℕ) × (f < 45) × DifferOnly (λ p. (p / 9 ≡ m) ⊎ In p (beside-chips ps f)) b y
+  pub some-beside : (ps : List ℕ) → BesideUpTo (further-beside (length ps)) m ps b y
+      → (f : ℕ) × (f < 45) × DifferOnly (λ p. (p / 9 ≡ m) ⊎ In p (beside-chips ps f)) b y
   some-beside [] (fs, l, h) =
       let w = at-most-one fs l in
       (w .0, w .1, widen (λ p. (p / 9 ≡ m) ⊎ (⊥ ⊎ In p fs)) (λ p. (p / 9 ≡ m) ⊎ In p (w .0 ∷ [])) b y (each (w .0) (w .2)) h)

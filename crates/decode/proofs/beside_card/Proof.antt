@@ -30,7 +30,8 @@ returns-2 c =
     let a = s .args in
     let ls = a .labels .now in
     let card : 9 * a .j / 9 ≡ a .j = omega arith in
-    λ sums e at. found-answers ls (s .pre .0) sums (a .j) (s .pre .1) [] (tt, tt) (a .once) (a .squared) at (9 * a .j) (omega (arith, s .pre .1)) (d .alone .result)
+    λ sums e at. found-answers ls (s .pre .0) sums (a .j) (s .pre .1) [] (tt, tt) (a .once) (a .squared) at (9 * a .j) (omega (arith, s .pre .1))
+    (d .alone .result)
     (subst (λ (qs : List ℕ). Solves ls (rows-of sums) (a .j) qs (a .once) (a .squared) (d .alone .result)) (on (9 * a .j) (a .j) card)
     (subst (Solves ls (rows-of sums) (a .j) [] (a .once) (a .squared)) (sym (d .alone .ensures ∙ ap (λ (z : List ℕ). rows-only z (a .j)) e))
     (solves-none ls (rows-of sums) (a .j) (s .pre .1) (a .once) (a .squared)
@@ -63,7 +64,8 @@ returns-4 c =
     let a = s .args in
     let ls = a .labels .now in
     let f = p .further-chip .result in
-    λ sums e at. found-answers ls (s .pre .0) sums (a .j) (s .pre .1) [] (tt, tt) (a .once) (a .squared) at f (p .further-chip .ensures .below) (d .with-one .result)
+    λ sums e at. found-answers ls (s .pre .0) sums (a .j) (s .pre .1) [] (tt, tt) (a .once) (a .squared) at f (p .further-chip .ensures .below)
+    (d .with-one .result)
     (subst (λ (qs : List ℕ). Solves ls (rows-of sums) (a .j) qs (a .once) (a .squared) (d .with-one .result)) (off f (a .j) (d .before .if3 .left))
     (subst (λ (z : List ℕ). Solves ls z (a .j) (f ∷ []) (a .once) (a .squared) (d .with-one .result)) e (d .with-one .ensures)))
     _ (c .kind-under2 .ensures)
