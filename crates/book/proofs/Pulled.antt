@@ -6,7 +6,8 @@
 --   begun        the put and the two marks
 --   hits-keep    hits change no record that was put
 --   card-pulled  THE STATEMENT
-use Prim.Native.Nat.{ℕ, _+_, _*_, _/_, _%_, _≤_, _<_}
+--   can-be-pulled   such lists can be run
+use Prim.Native.Nat.{ℕ, zero, suc, _+_, _*_, _/_, _%_, _≤_, _<_}
 use mathlib.Core.Path.{_≡_, refl, sym, ap, _∙_, subst}
 use mathlib.Core.Logic.{_≢_, _⊎_, inl, inr}
 use mathlib.Core.List.{List, [], _∷_, _++_}
@@ -35,8 +36,10 @@ use Rattle.bank.proofs.Accepted.{accepts}
 use Rattle.book.specs.Book.{put, get, mark, Entry, call, hit, write, says, Seen}
 use Rattle.book.specs.Book.{Book, fresh-book, marks-of, held-at, with-both, with-held, with-marks, Booked, Step}
 use Rattle.book.specs.Kept.{good-at, last-put, DamageAllowed, by-call, Corrected, GivesRecord}
-use Rattle.book.specs.Pulled.{HitsOn, pulled, CardPulled}
+use Rattle.book.specs.Possible.{AllPossible}
+use Rattle.book.specs.Pulled.{HitsOn, pulled, CardPulled, all-hit, CanBePulled}
 use Rattle.book.proofs.Whole.{whole}
+use Rattle.book.proofs.Runs.{any-list}
 use Rattle.book.proofs.Record.{gets-last-put}
 use Rattle.book.proofs.Calls.{last}
 use Rattle.book.proofs.OneHit.{fresh-lawful, put-done, last-is}
@@ -181,3 +184,24 @@ card-pulled n k hi hk rec out lr lq p hp hits on i x h ss s r =
         given b (last-put n k (replicate 34 0) (pulled k rec p hits i x)) last-record (f .1 .marks)
         (gets-last-put n (omega arith) hi (pulled k rec p hits i x) ss b w k out (call (get k out)) by-call s b′ v
         (ap (λ (c : Marks). get-cause (45 * n) k c (length out)) (f .1 .marks) ∙ fine) (allowed (f .0) b (f .1)))
+
+-- ---- such lists can be run
+module _ (n k : ℕ) (hk : k < n) (j : ℕ) (hj : j < 5) (y : ℕ) (hy : y < 256) where
+  all-on : (m : ℕ) → m ≤ 9 → HitsOn k j (all-hit k j y m)
+  all-on zero h = tt
+  all-on (suc m) h =
+      let block : (45 * k + (9 * j + m)) / 45 ≡ k = omega arith in
+      let card : (45 * k + (9 * j + m)) % 45 / 9 ≡ j = omega arith in
+      (block, card, all-on m (omega arith))
+
+  all-possible : (es : List Entry) → AllPossible n es → (m : ℕ) → m ≤ 9 → AllPossible n (all-hit k j y m ++ es)
+  all-possible es h zero l = h
+  all-possible es h (suc m) l = ((omega arith, hy), all-possible es h m (omega arith))
+
+pub can-be-pulled : CanBePulled
+can-be-pulled n k hk rec out bytes p hp y hy i x h hx =
+    let ends : AllPossible n (hit (45 * k + i) x ∷ call (get k out) ∷ []) = ((omega arith, hx), (tt, tt)) in (
+      all-on n k hk (p / 9) (omega arith) y hy 9 (omega arith),
+      any-list n (pulled k rec p (all-hit k (p / 9) y 9) i x ++ (call (get k out) ∷ []))
+          (bytes, (tt, (tt, all-possible n k hk (p / 9) (omega arith) y hy (hit (45 * k + i) x ∷ call (get k out) ∷ []) ends 9 (omega arith)))),
+    )
