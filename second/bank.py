@@ -21,7 +21,7 @@ def block_line(k, answer):
     if answer.number == ref.NONE:
         return f"{k} none"
     if answer.number == ref.SEVERAL:
-        return f"{k} several"
+        return f"{k} several {answer.card}"
     if answer.kind == ref.IN_CHIPS:
         return f"{k} chips {answer.n}"
     return f"{k} card {answer.card} {answer.n}"

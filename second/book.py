@@ -211,9 +211,8 @@ class Book:
         self.eight[7] |= 1
 
     def _refused(self, answer):
-        """The card with 11 may be any that fits; here it is the lowest."""
         self.eight[4] = 16 + answer.number
-        self.eight[5] = 16 * min(answer.cards, default=0)
+        self.eight[5] = 16 * answer.card
         self.eight[7] |= 2
 
     # Demand 3's last sentence.

@@ -56,23 +56,28 @@ IN_ROW = with_bytes((0, 1), (9, 1))
 SEVEN = with_bytes((20, 7))
 
 # 01, "Blocks to set up", row by row: marks, block, what its line says.  Order 5
-# changed the row of card 0 and chip 1; the three after it are by order 5 too.
+# changed the row of card 0 and chip 1; the three after it are by order 5 too.  The
+# card after "several" is by order 6, and the last four rows are.
 WORKED = (
     (marks(), bytes(BLOCK), "clean"),
     (marks(), SEVEN, "chips 1"),
-    (marks(), THREE, "several"),
+    (marks(), THREE, "several 0"),
     (marks(0), THREE, "card 0 3"),
     (marks(1), THREE, "card 1 3"),
     (marks(), IN_ROW, "none"),
     (marks(), with_bytes((0, 1), (1, 1)), "card 0 2"),
     (marks(255, 0), IN_ROW, "chips 2"),
-    (marks(255, 0, 9), SEVEN, "several"),
+    (marks(255, 0, 9), SEVEN, "several 2"),
     (marks(0), IN_ROW, "card 0 2"),
     (marks(0, 1), with_bytes((9, 1)), "chips 1"),
     (marks(0, 1, 8), with_bytes((9, 1)), "chips 1"),
     (marks(0, 10), with_bytes((9, 1)), "none"),
     (marks(0, 1, 10), with_bytes((9, 1)), "none"),
     (marks(255, 0, 0), bytes(BLOCK), "refused 7"),
+    (marks(255, 9), with_bytes((0, 1), (2, 2)), "several 0"),
+    (marks(255, 0), with_bytes((10, 1), (12, 1)), "several 1"),
+    (marks(255, 0), with_bytes((20, 1), (24, 1)), "several 2"),
+    (marks(255, 7), with_bytes((36, 1), (43, 7)), "several 3"),
 )
 
 
@@ -93,7 +98,7 @@ def examples():
     for at, (record, block, says) in enumerate(WORKED):
         yield f"worked block {at}", record + block, worked_text(says)
     yield "01's input", FRESH + bytes(BLOCK) + THREE, (
-        "blocks 2\n1 several\n"
+        "blocks 2\n1 several 0\n"
         "clean 1 chips 0 card 0 none 0 several 1\nsound 500\n")
     yield "one sound block of 16", FRESH + bytes(BLOCK) + 15 * IN_ROW, (
         "blocks 16\n" + "".join(f"{k} none\n" for k in range(1, 16))

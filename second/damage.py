@@ -317,17 +317,18 @@ def lawful_on_two_cards(rng, j, m, more=()):
     return ref.reached(base, block, ref.sums(block))
 
 
+def half_way(rng, block, j, m, chips=()):
+    """Card j's half of a lawful difference on cards j and m and in these chips:
+    both cards fit, with the chips."""
+    _add(block, lawful_on_two_cards(rng, j, m, chips), {*_on(j), *chips})
+
+
 def half_way_between_cards(rng, block, marks):
-    """Card j's half of a lawful difference on cards j and m: both fit."""
-    j, m = rng.sample(range(CARDS), 2)
-    _add(block, lawful_on_two_cards(rng, j, m), _on(j))
+    half_way(rng, block, *rng.sample(range(CARDS), 2))
 
 
 def half_way_with_marked_chips(rng, block, marks):
-    """The same where the lawful difference uses the marked chips too."""
-    j, m = rng.sample(range(CARDS), 2)
-    _add(block, lawful_on_two_cards(rng, j, m, marks.chips),
-         {*_on(j), *marks.chips})
+    half_way(rng, block, *rng.sample(range(CARDS), 2), marks.chips)
 
 
 def three_chips_that_fit_every_card(rng, block, marks):

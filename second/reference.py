@@ -345,9 +345,8 @@ def fitting_cards(block, marks):
 # ----------------------------------------------------------------- reading
 
 # What a call says.  number is 0 or 01's number of refusal; kind, card and n
-# are 0 where 01 names none; cards holds the cards that 01 permits with 11.
-Answer = namedtuple("Answer", "number kind card n cards",
-                    defaults=(0, 0, 0, 0, frozenset()))
+# are 0 where 01 names none.
+Answer = namedtuple("Answer", "number kind card n", defaults=(0, 0, 0, 0))
 
 
 def describe(places, marks):
@@ -373,7 +372,9 @@ def read_opened(block, marks):
         return Answer(NONE), None
     if len(found) > 1:
         assert marks.card is None      # under a card mark S has one at most
-        return Answer(SEVERAL, cards=fitting_cards(block, marks)), None
+        # Order 6: "the lowest-numbered one whose card-kind change reaches a
+        # lawful block".
+        return Answer(SEVERAL, card=min(fitting_cards(block, marks))), None
     member = found.pop()
     return describe(changed(block, member), marks), member
 

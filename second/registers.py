@@ -68,7 +68,7 @@ def run(registers, command, bank, output, window):
     registers[MARKS] = marks
     registers[COMMAND] = command
     registers[LAST] = last_answer(command, answer)
-    registers[DETAIL] = min(details(answer))
+    registers[DETAIL] = answer.n + 16 * answer.card
     registers[PENDING] |= REFUSED_BIT if answer.number else DONE_BIT
     return answer
 
@@ -78,11 +78,6 @@ def last_answer(command, answer):
     if answer.number:
         return REFUSED + answer.number
     return answer.kind if command in (GET, PATROL) else MARKED
-
-
-def details(answer):
-    """The bytes that may stand in byte 5: with 11, one for each card that fits."""
-    return {answer.n + 16 * card for card in answer.cards or [answer.card]}
 
 
 def read(registers, address):

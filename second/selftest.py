@@ -112,27 +112,35 @@ def check_distance():
 
 # ----------------------------------------------------------- blocks of 01
 
-EVERY_CARD = frozenset(range(CARDS))
-
 # Marks, bytes set, the answer, and the bytes of the corrected block that are
 # not 0 (None on a refusal).  A star in 01 is True here; chip 10 is not in 01.
 TABLE = (
     (True, marks(), {}, Answer(), {}),
     (True, marks(), {20: 7}, Answer(0, IN_CHIPS, 0, 1), {}),
-    (True, marks(), {0: 8, 1: 6, 2: 1}, Answer(11, cards=EVERY_CARD), None),
+    (True, marks(), {0: 8, 1: 6, 2: 1}, Answer(11, card=0), None),
     (True, marks(0), {0: 8, 1: 6, 2: 1}, Answer(0, IN_CARD, 0, 3), {}),
     (True, marks(1), {0: 8, 1: 6, 2: 1}, Answer(0, IN_CARD, 1, 3),
      {0: 8, 1: 6, 2: 1, 9: 8, 10: 6, 11: 1}),
     (True, marks(), {0: 1, 9: 1}, Answer(10), None),
     (True, marks(), {0: 1, 1: 1}, Answer(0, IN_CARD, 0, 2), {}),
     (True, marks(255, 0), {0: 1, 9: 1}, Answer(0, IN_CHIPS, 0, 2), {}),
-    (True, marks(255, 0, 9), {20: 7}, Answer(11, cards=frozenset({2, 3, 4})),
-     None),
+    (True, marks(255, 0, 9), {20: 7}, Answer(11, card=2), None),
     (True, marks(0), {0: 1, 9: 1}, Answer(0, IN_CARD, 0, 2), {}),
     (False, marks(0, 1), {9: 1}, Answer(0, IN_CHIPS, 0, 1), {}),   # order 5
     (False, marks(0, 10), {9: 1}, Answer(10), None),
     (False, marks(0, 1, 10), {9: 1}, Answer(10), None),
     (False, marks(255, 0, 0), {}, Answer(7), None),
+)
+
+# The cards that fit, of which order 6 names the lowest: 01's two rows of
+# "several", and one for each card that can be named.
+FITTING = (
+    (marks(), {0: 8, 1: 6, 2: 1}, {0, 1, 2, 3, 4}),
+    (marks(255, 0, 9), {20: 7}, {2, 3, 4}),
+    (marks(255, 9), {0: 1, 2: 2}, {0, 3}),
+    (marks(255, 0), {10: 1, 12: 1}, {1, 2}),
+    (marks(255, 0), {20: 1, 24: 1}, {2, 4}),
+    (marks(255, 7), {36: 1, 43: 7}, {3, 4}),
 )
 
 # Further readings of the words on kinds and n.
@@ -163,6 +171,12 @@ def check_blocks():
         output = bytearray(b"\xA5" * BLOCK)
         check(name, ref.read_into(output, block, record), answer)
         check(name, bytes(output), member or b"\xA5" * BLOCK)
+    for record, changes, fit in FITTING:
+        name = f"cards that fit {changes} under {tuple(record)}"
+        block, now = zeros_with(changes), ref.open_marks(record)
+        check(name, ref.fitting_cards(block, now), fit)
+        check(name + ": the one named", ref.reading(block, record),
+              (Answer(11, card=min(fit)), None))
     for record, changes, answer in KINDS:
         check(f"kind of {changes} under {tuple(record)}",
               ref.reading(zeros_with(changes), record),
@@ -311,9 +325,7 @@ def lowest_numbers():
         lent, output = bytearray(blocks[:size]), bytearray(b"\xA5" * out)
         answer = call(output, lent)
         check(f"refusal {at}", answer.number, number)
-        check(f"refusal {at}: cards", answer.cards,
-              EVERY_CARD if number == 11 else frozenset())
-        check(f"refusal {at}: kind, card, n", answer[1:4], (0, 0, 0))
+        check(f"refusal {at}: kind, card, n", answer[1:], (0, 0, 0))
         check(f"refusal {at} alters nothing",
               (bytes(lent), bytes(output)), (blocks[:size], b"\xA5" * out))
 
@@ -372,7 +384,10 @@ def check_members(rng):
         check(name + ": number", answer.number,
               10 if not found else 0 if len(found) == 1 else 11)
         if answer.number == 11:
-            check(name + ": a card", bool(answer.cards))
+            check(name + ": the lowest card", answer.card,
+                  min(card for one in found for card in range(CARDS)
+                      if all(p // CHIPS == card or p in now.chips
+                             for p in ref.changed(block, one))))
             check(name + ": no card mark", now.card, None)
         if now.card is None and len(now.chips) == 2:
             check(name + ": not none, not card",
@@ -486,7 +501,7 @@ def check_single_chips():
 
 SAMPLE = FRESH + bytes(45) + bytes((8, 6, 1)) + bytes(42)
 SAMPLE_TEXT = """blocks 2
-1 several
+1 several 0
 clean 1 chips 0 card 0 none 0 several 1
 sound 500
 """

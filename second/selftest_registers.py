@@ -22,7 +22,6 @@ OUTPUT = b"\xA5" * BLOCK
 
 ENABLED, WAITING = 0x5A, 0xA4      # bytes 6 and 7 before each command below
 BAD6, BAD7 = bytes((5, 0, 255, 255)), marks(255, 7, 7)
-ANY_CARD = (0, 16, 32, 48, 64)
 FAR = (*range(12, 301), 2 ** 16 + 4, 2 ** 31, 2 ** 32 - 1)
 
 
@@ -48,48 +47,48 @@ def lent(before, bank=BANK, output=OUTPUT):
 
 # -------------------------------------------------------------- the commands
 
-# Marks, bytes 1 to 3, command; then byte 4, the values that byte 5 may have,
-# and the marks after it (None: as before).
+# Marks, bytes 1 to 3, command; then bytes 4 and 5, and the marks after it
+# (None: as before).  The card with 27 is order 6's.
 COMMANDS = (
-    (FRESH, (0, 0, 0), GET, 0, (0,), None),
-    (FRESH, (1, 0, 0), GET, 1, (1,), None),
-    (FRESH, (2, 0, 0), GET, 27, ANY_CARD, None),
-    (FRESH, (3, 0, 0), GET, 26, (0,), None),
-    (FRESH, (4, 0, 0), GET, 2, (2 + 16 * 3,), None),
-    (FRESH, (6, 0, 0), GET, 21, (0,), None),
-    (FRESH, (0, 1, 0), GET, 21, (0,), None),
-    (FRESH, (255, 255, 0), GET, 21, (0,), None),
-    (marks(0), (2, 0, 0), GET, 2, (3,), None),
-    (marks(1), (2, 0, 0), GET, 2, (3 + 16,), None),
-    (marks(255, 0), (3, 0, 0), GET, 1, (2,), None),
-    (marks(255, 0, 9), (1, 0, 0), GET, 27, (32, 48, 64), None),
-    (marks(4, 0, 1), (5, 0, 0), GET, 2, (11 + 16 * 4,), None),
-    (FRESH, (0, 0, 0), PATROL, 0, (0,), None),
-    (FRESH, (1, 0, 0), PATROL, 1, (1,), None),
-    (FRESH, (2, 0, 0), PATROL, 27, ANY_CARD, None),
-    (FRESH, (3, 0, 0), PATROL, 26, (0,), None),
-    (FRESH, (4, 0, 0), PATROL, 2, (2 + 16 * 3,), None),
-    (FRESH, (6, 0, 0), PATROL, 21, (0,), None),
-    (marks(4, 0, 1), (5, 0, 0), PATROL, 2, (11 + 16 * 4,), None),
-    (FRESH, (0, 0, 44), MARK_CHIP, 3, (0,), marks(255, 44)),
-    (FRESH, (0, 0, 45), MARK_CHIP, 22, (0,), None),
-    (FRESH, (0, 0, 255), MARK_CHIP, 22, (0,), None),
-    (marks(255, 7), (0, 0, 7), MARK_CHIP, 3, (0,), marks(255, 7)),
-    (marks(255, 7), (0, 0, 3), MARK_CHIP, 3, (0,), marks(255, 7, 3)),
-    (marks(255, 7, 3), (0, 0, 7), MARK_CHIP, 3, (0,), marks(255, 7, 3)),
-    (marks(255, 7, 3), (0, 0, 3), MARK_CHIP, 3, (0,), marks(255, 7, 3)),
-    (marks(255, 7, 3), (0, 0, 4), MARK_CHIP, 24, (0,), None),
-    (FRESH, (0, 0, 4), MARK_CARD, 3, (0,), marks(4)),
-    (FRESH, (0, 0, 5), MARK_CARD, 22, (0,), None),
-    (marks(2), (0, 0, 2), MARK_CARD, 3, (0,), marks(2)),
-    (marks(2), (0, 0, 3), MARK_CARD, 24, (0,), None),
-    (marks(255, 7, 3), (0, 0, 7), LIFT_CHIP, 3, (0,), marks(255, 3)),
-    (marks(255, 7, 3), (0, 0, 4), LIFT_CHIP, 25, (0,), None),
-    (FRESH, (0, 0, 45), LIFT_CHIP, 22, (0,), None),
-    (marks(3, 7), (0, 0, 3), LIFT_CARD, 3, (0,), marks(255, 7)),
-    (marks(3, 7), (0, 0, 255), LIFT_CARD, 3, (0,), marks(255, 7)),
-    (FRESH, (0, 0, 0), LIFT_CARD, 25, (0,), None),
-    (FRESH, (0, 0, 255), LIFT_CARD, 25, (0,), None),
+    (FRESH, (0, 0, 0), GET, 0, 0, None),
+    (FRESH, (1, 0, 0), GET, 1, 1, None),
+    (FRESH, (2, 0, 0), GET, 27, 0, None),
+    (FRESH, (3, 0, 0), GET, 26, 0, None),
+    (FRESH, (4, 0, 0), GET, 2, 2 + 16 * 3, None),
+    (FRESH, (6, 0, 0), GET, 21, 0, None),
+    (FRESH, (0, 1, 0), GET, 21, 0, None),
+    (FRESH, (255, 255, 0), GET, 21, 0, None),
+    (marks(0), (2, 0, 0), GET, 2, 3, None),
+    (marks(1), (2, 0, 0), GET, 2, 3 + 16, None),
+    (marks(255, 0), (3, 0, 0), GET, 1, 2, None),
+    (marks(255, 0, 9), (1, 0, 0), GET, 27, 16 * 2, None),
+    (marks(4, 0, 1), (5, 0, 0), GET, 2, 11 + 16 * 4, None),
+    (FRESH, (0, 0, 0), PATROL, 0, 0, None),
+    (FRESH, (1, 0, 0), PATROL, 1, 1, None),
+    (FRESH, (2, 0, 0), PATROL, 27, 0, None),
+    (FRESH, (3, 0, 0), PATROL, 26, 0, None),
+    (FRESH, (4, 0, 0), PATROL, 2, 2 + 16 * 3, None),
+    (FRESH, (6, 0, 0), PATROL, 21, 0, None),
+    (marks(4, 0, 1), (5, 0, 0), PATROL, 2, 11 + 16 * 4, None),
+    (FRESH, (0, 0, 44), MARK_CHIP, 3, 0, marks(255, 44)),
+    (FRESH, (0, 0, 45), MARK_CHIP, 22, 0, None),
+    (FRESH, (0, 0, 255), MARK_CHIP, 22, 0, None),
+    (marks(255, 7), (0, 0, 7), MARK_CHIP, 3, 0, marks(255, 7)),
+    (marks(255, 7), (0, 0, 3), MARK_CHIP, 3, 0, marks(255, 7, 3)),
+    (marks(255, 7, 3), (0, 0, 7), MARK_CHIP, 3, 0, marks(255, 7, 3)),
+    (marks(255, 7, 3), (0, 0, 3), MARK_CHIP, 3, 0, marks(255, 7, 3)),
+    (marks(255, 7, 3), (0, 0, 4), MARK_CHIP, 24, 0, None),
+    (FRESH, (0, 0, 4), MARK_CARD, 3, 0, marks(4)),
+    (FRESH, (0, 0, 5), MARK_CARD, 22, 0, None),
+    (marks(2), (0, 0, 2), MARK_CARD, 3, 0, marks(2)),
+    (marks(2), (0, 0, 3), MARK_CARD, 24, 0, None),
+    (marks(255, 7, 3), (0, 0, 7), LIFT_CHIP, 3, 0, marks(255, 3)),
+    (marks(255, 7, 3), (0, 0, 4), LIFT_CHIP, 25, 0, None),
+    (FRESH, (0, 0, 45), LIFT_CHIP, 22, 0, None),
+    (marks(3, 7), (0, 0, 3), LIFT_CARD, 3, 0, marks(255, 7)),
+    (marks(3, 7), (0, 0, 255), LIFT_CARD, 3, 0, marks(255, 7)),
+    (FRESH, (0, 0, 0), LIFT_CARD, 25, 0, None),
+    (FRESH, (0, 0, 255), LIFT_CARD, 25, 0, None),
 )
 
 
@@ -105,17 +104,15 @@ def plain_call(command, before):
 
 
 def check_commands():
-    for record, asked, command, last, details, after in COMMANDS:
+    for record, asked, command, last, detail, after in COMMANDS:
         before = held(record, asked)
         name = f"command {command} with {tuple(before)}"
         pending = WAITING | (1 if last < 16 else 2)
         now, bank, output, recent = lent(before)
         number, answer = registers.write(now, 0, command, bank, output, recent)
         check(name, number, 0)
-        check(name + ": byte 5", now[5] in details)
-        check(name + ": what byte 5 may be", registers.details(answer), set(details))
         check(name + ": registers", bytes(now),
-              bytes((command, *asked, last, now[5], ENABLED, pending))
+              bytes((command, *asked, last, detail, ENABLED, pending))
               + (after or record))
         check(name + ": bank, output, window", (bank, output, recent),
               plain_call(command, before))

@@ -21,7 +21,7 @@ LARGEST = BLOCK * MOST_BLOCKS
 TOTALS = ("clean", "chips", "card", "none", "several")
 
 # One block that is not clean: its number, the reading's word and n, the card
-# (with "card" the corrected one, with "several" one that fits) and the
+# (with "card" the corrected one, with "several" the lowest that fits) and the
 # positions changed.
 Unclean = namedtuple("Unclean", "k word card n changed")
 
@@ -63,9 +63,7 @@ class FromSecond:
         return answer.number, totals
 
     def read(self, block, marks):
-        answer, member = self.ref.reading(block, marks)
-        # The card with 11 may be any that fits; the tools compare none of it.
-        return answer._replace(card=min(answer.cards, default=answer.card)), member
+        return self.ref.reading(block, marks)
 
 
 @contextlib.contextmanager

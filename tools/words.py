@@ -46,7 +46,7 @@ def block_line(u):
     if u.word == "none":
         said = "none"
     elif u.word == "several":
-        said = f"several; a change in card {u.card} reaches one of the records"
+        said = f"several; card {u.card} is the lowest whose change reaches a record"
     else:
         what = "chips" if u.word == "chips" else f"card {u.card}"
         said = f"{what}, {plural(u.n, 'byte')}: {places(u.changed)}"

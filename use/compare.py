@@ -29,8 +29,7 @@ import reference as ref             # noqa: E402
 import registers                    # noqa: E402
 import single                       # noqa: E402
 import window                       # noqa: E402
-from agree import (Difference, expect, expect_answer,  # noqa: E402
-                   take_card_over)
+from agree import Difference, expect, expect_answer  # noqa: E402
 from book import Book               # noqa: E402
 from entries import next_entries    # noqa: E402
 from reference import BLOCK, RECORD  # noqa: E402
@@ -91,6 +90,7 @@ class Run:
         said = self.lib.call("get", self.bank, k, self.marks, after, self.window)
         wanted, wanted_after = self.book.get(k, output)
         expect_answer("answer", said, wanted)
+        self.seen.answered("call", wanted)
         expect("output after it", after, wanted_after)
         self._promise(k, said.number, after)
 
@@ -109,7 +109,9 @@ class Run:
 
     def _patrol(self, k):
         said = self.lib.call("patrol", self.bank, k, self.marks, self.window)
-        expect_answer("answer", said, self.book.patrol(k))
+        wanted = self.book.patrol(k)
+        expect_answer("answer", said, wanted)
+        self.seen.answered("call", wanted)
 
     def _clear_window(self):
         said = self.lib.call("clear_window", self.window)
@@ -142,7 +144,7 @@ class Run:
         number, answer, wanted_after = self.book.write_register(
             address, value, output)
         expect("number", said, number)
-        take_card_over(self.registers, self.book.eight, answer)
+        self.seen.answered("command", answer)
         expect("output after it", after, wanted_after)
         if answer is not None and value == registers.GET:
             last = self.registers[registers.LAST]

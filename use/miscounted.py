@@ -61,4 +61,4 @@ class Miscounted:
             return library.Answer(ref.NONE, 0, 0, 0), before
         member = min(found)             # by too low a count there are more than one
         answer = ref.describe(ref.changed(block, member), marks)
-        return library.Answer(*answer[:4]), member
+        return library.Answer(*answer), member

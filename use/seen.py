@@ -1,8 +1,9 @@
-"""What the lists of compare.py show of proposals and of marks placed again, counted
-by their entries."""
+"""What the lists of compare.py show of proposals, of marks placed again and of cards
+named with 11, counted by their entries."""
 
 from collections import Counter
 
+import reference as ref
 import registers
 import window
 
@@ -12,7 +13,9 @@ LEFT = "at which one left the window"
 AGAIN = {(what, how): f"that placed {what} again by {how}"
          for what in ("a chip", "one of two chips", "a card")
          for how in ("call", "command")}
-ALL = WITH, HIDDEN, LEFT, *AGAIN.values()
+NAMED = {how: f"that named a card above 0 with 11 by {how}"
+         for how in ("call", "command")}
+ALL = WITH, HIDDEN, LEFT, *AGAIN.values(), *NAMED.values()
 
 
 def placed(book, name, *arguments):
@@ -55,6 +58,11 @@ class Seen(Counter):
         made = again(book, name, *arguments)
         if made:
             self[AGAIN[made]] += 1
+
+    def answered(self, how, answer):
+        """The answer of a get or a patrol, or of a command; None of another write."""
+        if answer is not None and answer.number == ref.SEVERAL:
+            self[NAMED[how]] += answer.card > 0
 
     def words(self):
         return ", ".join(f"{self[what]} {what}" for what in ALL)

@@ -12,7 +12,7 @@ import library
 import reference as ref
 import registers
 import window
-from agree import Difference, expect, expect_answer, take_card_over
+from agree import Difference, expect, expect_answer
 from reference import BLOCK, CARDS, CHIPS, RECORD
 
 SHORT = range(100)                        # lengths of a slice
@@ -99,8 +99,7 @@ def compare_call(lib, name, *arguments):
     said = lib.call(name, *ours)
     wanted = REFERENCE[name](*theirs)
     if name == "write_register":
-        wanted, answer = wanted
-        take_card_over(ours[0], theirs[0], answer)
+        wanted, _ = wanted
     try:
         expect_answer("answer", said, wanted)
         for mine, yours in zip(ours, theirs):
@@ -199,6 +198,35 @@ def under_each_card(lib, rng):
                 block[p] = rng.randrange(1, 256)
             compare_call(lib, "read", bytes(block), marks, rng.randbytes(BLOCK))
     return 2 * CARDS * len(sets)
+
+
+# -------------------------------------------------- the card with "several"
+
+# A get or a patrol of a bank of one block, by call and by command.
+READINGS = (
+    lambda bank, marks, out: ("get", bank, 0, marks, out, window.START),
+    lambda bank, marks, out: ("patrol", bank, 0, marks, window.START),
+    lambda bank, marks, out: ("write_register", bytes(8) + marks, 0, registers.GET,
+                              bank, out, window.START),
+    lambda bank, marks, out: ("write_register", bytes(8) + marks, 0,
+                              registers.PATROL, bank, out, window.START),
+)
+
+
+def two_cards_fit(lib, rng):
+    """Blocks that two cards fit beside marked chips: each two cards beside each chip,
+    and three pairs of cards beside each two chips.  Each block is read, and got or
+    patrolled, by call or by command."""
+    pairs = itertools.cycle(itertools.permutations(range(CARDS), 2))
+    sets = [(p,) for p in range(BLOCK) for _ in range(20)] \
+        + [two for two in itertools.combinations(range(BLOCK), 2) for _ in range(3)]
+    for chips in sets:
+        marks = ref.close_marks(ref.Marks(None, tuple(rng.sample(chips, len(chips)))))
+        block, out = bytearray(ref.store(rng.randbytes(RECORD))), rng.randbytes(BLOCK)
+        damage.half_way(rng, block, *next(pairs), chips)
+        compare_call(lib, "read", bytes(block), marks, out)
+        compare_call(lib, *rng.choice(READINGS)(bytes(block), marks, out))
+    return 2 * len(sets)
 
 
 # ---------------------------------------------------------------- registers
@@ -319,6 +347,7 @@ def windows(lib, rng):
 def compare_all(lib, rng):
     """All of the above; gives how many calls were made."""
     return (lengths_of_calls(lib, rng) + mark_numbers(lib) + mark_commands(lib)
-            + under_each_card(lib, rng) + register_addresses(lib, rng)
+            + under_each_card(lib, rng) + two_cards_fit(lib, rng)
+            + register_addresses(lib, rng)
             + register_lengths(lib, rng) + register_block_numbers(lib, rng)
             + interrupt_bits(lib, rng) + around_four(lib) + windows(lib, rng))

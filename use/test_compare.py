@@ -14,6 +14,7 @@ from kit import ARCHIVE, C_FLAGS, KIT, ROOT, InFolder, needs, run, try_run
 
 import compare as comparison     # which finds second/ for single.py too
 import miscounted
+import misnamed
 import misplaced
 import mistakes
 import seen
@@ -161,7 +162,7 @@ class Compare(WithFaults):
         four_times = ("hit", 20, 7), *[("get", 0, bytes(45))] * 4
         card_twice = [("place_card", 2)] * 2                    # that of chip 20
         by_command = ("write_register", 3, 2, b""), ("write_register", 0, 4, b"")
-        self.assertEqual(len(seen.ALL), 9)
+        self.assertEqual(len(seen.ALL), 11)
         self.assertEqual(self.run_of(500, ("report",)), lacking())
         self.assertEqual(self.run_of(500, *four_times), lacking(seen.WITH))
         there = seen.WITH, seen.HIDDEN, "that placed a card again by call"
@@ -243,6 +244,36 @@ class CountMistakes(OnTheLibrary):
                 lib = miscounted.Miscounted(self.lib, counted)
                 self.assertTrue(self.found_by_single_calls(lib))
                 self.assertTrue(self.found_in_lists(lib))
+
+
+class NameMistakes(OnTheLibrary):
+    def found_by_single_calls(self, lib):
+        try:
+            single.two_cards_fit(lib, random.Random(1))
+        except single.Difference:
+            return True
+        return False
+
+    def test_each_is_found(self):
+        right = misnamed.Misnamed(self.lib, misnamed.LOWEST)
+        self.assertFalse(self.found_by_single_calls(right))
+        self.assertFalse(self.found_in_lists(right))
+        for what, named in misnamed.MISNAMED.items():
+            for call in misnamed.CALLS:
+                with self.subTest(what, call=call):
+                    lib = misnamed.Misnamed(self.lib, named, (call,))
+                    self.assertTrue(self.found_by_single_calls(lib))
+                    if call != "read":      # lists have no entry that is a read alone
+                        self.assertTrue(self.found_in_lists(lib))
+
+    def test_all_that_can_be_named_is(self):
+        named = []
+        lib = misnamed.Misnamed(self.lib, lambda fit, marks, block: (
+            named.append((len(marks.chips), fit[0])) or fit[0]))
+        single.two_cards_fit(lib, random.Random(1))
+        for chips, highest in ((1, 3), (2, 2)):
+            for card in range(highest + 1):
+                self.assertGreater(named.count((chips, card)), 50, (chips, card))
 
 
 class WindowMistakes(OnTheLibrary):

@@ -9,15 +9,15 @@
 /* The twelve registers, and what is lent beside them. */
 static lent held, bank, out;
 
-/* What a command says, and the cards that 11 may name, one bit for each. */
+/* What a command says. */
 typedef struct said {
-    unsigned number, kind, card, n, fits;
+    unsigned number, kind, card, n;
 } said;
 
 /* What every block that a command asks for reads as where nothing refuses it,
  * and the 45 bytes that it is mended to.  Most trials have a bank of zeros. */
-static const said CLEAN = { 0, 0, 0, 0, 0 };
-static said reads = { 0, 0, 0, 0, 0 };
+static const said CLEAN = { 0, 0, 0, 0 };
+static said reads = { 0, 0, 0, 0 };
 static const uint8_t *mended = ZEROS;
 
 static void fail(const char *what, uint32_t address, unsigned value)
@@ -41,7 +41,7 @@ static size_t block_asked(const uint8_t *r)
 
 static said with_number(unsigned number)
 {
-    said s = { 0, 0, 0, 0, 0 };
+    said s = { 0, 0, 0, 0 };
     s.number = number;
     return s;
 }
@@ -83,12 +83,6 @@ static said mark_says(uint8_t *r, uint8_t command)
 static said run_command(uint8_t *r, uint8_t command)
 {
     said s = command == 1 ? get_says(r) : command == 2 ? patrol_says(r) : mark_says(r, command);
-    /* With 11 any card that fits is right: the library's is taken, if it does. */
-    if (s.number == 11) {
-        s.card = held.bytes[5] / 16u;
-        if ((s.fits >> s.card & 1) == 0)
-            fail("a card that does not fit", 0, command);
-    }
     r[0] = command;
     r[4] = (uint8_t)(s.number == 0 ? s.kind : 16 + s.number);
     r[5] = (uint8_t)(s.n + 16 * s.card);

@@ -35,7 +35,7 @@ static void print_answer(const char *when, livomashen_answer a)
     if (a.number == LIVOMASHEN_NONE)
         printf("none: no record fits\n");
     else if (a.number == LIVOMASHEN_SEVERAL)
-        printf("several: more than one record fits, card %d for one\n", a.card);
+        printf("several: more than one record fits, card %d is the lowest\n", a.card);
     else if (a.number != LIVOMASHEN_DONE)
         printf("refused %d\n", a.number);
     else if (a.kind == LIVOMASHEN_CLEAN)

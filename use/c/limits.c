@@ -99,24 +99,48 @@ static void causes_together(void)
     lend_all();
 }
 
-/* 01's blocks that read as none and as several: nothing is written either. */
+/* Blocks of zeros with bytes set that read as none and as several: 01's, and four
+ * that two cards fit, of which order 6 names the lower one. */
+static const struct unreadable {
+    uint8_t marks[4];
+    uint8_t bytes[3][2];             /* position and value; one again sets no more */
+    uint32_t code;
+} UNREADABLE[] = {
+    { { 255, 0, 255, 255 }, { { 0, 1 }, { 9, 1 }, { 9, 1 } }, 10 },
+    { { 255, 0, 255, 255 }, { { 0, 8 }, { 1, 6 }, { 2, 1 } }, 11 },
+    { { 255, 2, 0, 9 }, { { 20, 7 }, { 20, 7 }, { 20, 7 } }, 11 + 2 * 65536 },
+    { { 255, 1, 9, 255 }, { { 0, 1 }, { 2, 2 }, { 2, 2 } }, 11 },
+    { { 255, 1, 0, 255 }, { { 10, 1 }, { 12, 1 }, { 12, 1 } }, 11 + 65536 },
+    { { 255, 1, 0, 255 }, { { 20, 1 }, { 24, 1 }, { 24, 1 } }, 11 + 2 * 65536 },
+    { { 255, 1, 7, 255 }, { { 36, 1 }, { 43, 7 }, { 43, 7 } }, 11 + 3 * 65536 }
+};
+
+/* The whole code, and that nothing is written. */
+static void check_code(const char *call, uint32_t code, uint32_t wanted)
+{
+    check(call, code, wanted & 0xFFu, NULL);
+    if (code != wanted)
+        fail(call, code, wanted);
+}
+
 static void unreadable(void)
 {
-    static const uint8_t none[45] = { 1, 0, 0, 0, 0, 0, 0, 0, 0, 1 };
-    static const uint8_t several[45] = { 8, 6, 1 };
-    const uint8_t *blocks[2];
-    unsigned wanted;
-    blocks[0] = none, blocks[1] = several;
+    size_t row, at;
     lend_all();
-    for (wanted = 10; wanted <= 11; wanted++) {
-        lend_bytes(&block, 45, blocks[wanted - 10], 45);
-        lend_bytes(&bank, 90, blocks[wanted - 10], 45);
-        check("read", livomashen_read(block.bytes, 45, marks.bytes, 4, out.bytes, 45),
-              wanted, NULL);
-        check("get", livomashen_get(bank.bytes, 90, 1, marks.bytes, 4, out.bytes, 45,
-                                    window.bytes), wanted, NULL);
-        check("patrol", livomashen_patrol(bank.bytes, 90, 1, marks.bytes, 4,
-                                          window.bytes), wanted, NULL);
+    for (row = 0; row < sizeof UNREADABLE / sizeof UNREADABLE[0]; row++) {
+        const struct unreadable *u = UNREADABLE + row;
+        uint8_t bytes[45] = { 0 };
+        for (at = 0; at < 3; at++)
+            bytes[u->bytes[at][0]] = u->bytes[at][1];
+        lend_bytes(&marks, 4, u->marks, 4);
+        lend_bytes(&block, 45, bytes, 45);
+        lend_bytes(&bank, 90, bytes, 45);
+        check_code("read", livomashen_read(block.bytes, 45, marks.bytes, 4, out.bytes, 45),
+                   u->code);
+        check_code("get", livomashen_get(bank.bytes, 90, 1, marks.bytes, 4, out.bytes, 45,
+                                         window.bytes), u->code);
+        check_code("patrol", livomashen_patrol(bank.bytes, 90, 1, marks.bytes, 4,
+                                               window.bytes), u->code);
     }
     lend_all();
 }

@@ -31,9 +31,9 @@ extern "C" {
 
 /* The version: another MAJOR may need changes in a program that uses it. */
 #define LIVOMASHEN_VERSION_MAJOR 2
-#define LIVOMASHEN_VERSION_MINOR 2
+#define LIVOMASHEN_VERSION_MINOR 3
 #define LIVOMASHEN_VERSION_PATCH 0
-#define LIVOMASHEN_VERSION "2.2.0"
+#define LIVOMASHEN_VERSION "2.3.0"
 
 /* Sizes. */
 enum {
@@ -225,7 +225,8 @@ uint32_t livomashen_propose(const uint8_t *window,
 typedef struct livomashen_answer {
     uint8_t number;   /* bits 0-7: 0 if corrected, else the refusal's number */
     uint8_t kind;     /* bits 8-15: clean, in chips or in a card; or marked */
-    uint8_t card;     /* bits 16-23: the card; with 11, one that fits */
+    uint8_t card;     /* bits 16-23: the card; with 11, the lowest that fits,
+                       * which need not be the bad one */
     uint8_t n;        /* bits 24-31: how many bytes were changed */
 } livomashen_answer;
 

@@ -35,15 +35,12 @@ def store_case(rng):
     output = bytearray([FILL]) * any_length(rng, ref.BLOCK)
     line = f"store {word(record)} {len(output)}"
     answer = ref.store_into(output, record)
-    return line, [f"{answer.number} {output.hex()}"]
+    return line, f"{answer.number} {output.hex()}"
 
 
-def permitted(answer, *after):
-    """Every answer that 01 permits, with the bytes after it: with 11, one for
-    each card that fits."""
-    cards = answer.cards or {answer.card}
-    ends = " ".join(part.hex() for part in after)
-    return [f"{answer.number} {answer.kind} {card} {answer.n} {ends}" for card in cards]
+def told(answer, *after):
+    """The answer, and the bytes after it."""
+    return " ".join((*map(str, answer), *(part.hex() for part in after)))
 
 
 def read_case(rng, marks=None, block=None):
@@ -53,7 +50,7 @@ def read_case(rng, marks=None, block=None):
         block = rng.randbytes(rng.randrange(91))
     output = bytearray([FILL]) * any_length(rng, ref.BLOCK)
     line = f"read {word(block)} {word(marks)} {len(output)}"
-    return line, permitted(ref.read_into(output, block, marks), output)
+    return line, told(ref.read_into(output, block, marks), output)
 
 
 def any_bank(rng, blocks=None):
@@ -75,28 +72,27 @@ def get_case(rng):
     marks, bank, k, held = any_block(rng)
     output = bytearray([FILL]) * any_length(rng, ref.BLOCK)
     line = f"get {word(bank)} {k} {word(marks)} {len(output)} {word(held)}"
-    return line, permitted(window.get(bank, k, output, marks, held), output, held)
+    return line, told(window.get(bank, k, output, marks, held), output, held)
 
 
 def patrol_case(rng):
     marks, bank, k, held = any_block(rng)
     line = f"patrol {word(bank)} {k} {word(marks)} {word(held)}"
-    return line, permitted(window.patrol(bank, k, marks, held), bank, held)
+    return line, told(window.patrol(bank, k, marks, held), bank, held)
 
 
 def propose_case(rng):
     marks = damage.any_marks(rng)
     held = damage.any_window(rng, marks)
     number, chip = window.propose(held, marks)
-    return f"propose {word(held)} {word(marks)}", [f"{number} {chip}"]
+    return f"propose {word(held)} {word(marks)}", f"{number} {chip}"
 
 
 def report_case(rng):
     marks, bank = any_bank(rng)
     answer, totals = ref.report(bank, marks)
     wanted = [answer.number, *(totals or ())]
-    return (f"report {word(bank)} {word(marks)}",
-            [" ".join(str(x) for x in wanted)])
+    return f"report {word(bank)} {word(marks)}", " ".join(map(str, wanted))
 
 
 def cases(rng, count):
@@ -123,9 +119,8 @@ def main():
     if len(answers) != len(made):
         sys.exit(f"{len(made)} cases, but {len(answers)} answers")
     for (line, wanted), got in zip(made, answers):
-        if got not in wanted:
-            sys.exit(f"seed {args.seed}: {line}\n  got    {got}\n"
-                     f"  wanted {' or '.join(wanted)}")
+        if got != wanted:
+            sys.exit(f"seed {args.seed}: {line}\n  got    {got}\n  wanted {wanted}")
     print(f"plain.rs and second/ agree on {len(made)} cases, "
           f"seed {args.seed}")
 

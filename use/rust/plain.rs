@@ -30,7 +30,7 @@ pub enum Answer {
     Refused(u8),
     /// Number 10.
     None,
-    /// Number 11, with one card that fits.
+    /// Number 11, with the lowest card that fits.
     Several {
         card: u8,
     },
@@ -276,7 +276,7 @@ impl Marks {
 
 // -------------------------------------------------------------------- reading
 
-/// The lawful blocks in reach: no change to one, one, or two and a card.
+/// The lawful blocks in reach: no change to one, one, or two and the lowest card.
 enum Found {
     None,
     One(Change),
@@ -295,15 +295,15 @@ fn search(s: &Sums, marks: &Marks) -> Found {
     }
     // A change of the chip kind is one of the card kind too, for the card of
     // its unmarked chip; so five searches find all of them.
-    let mut found: Option<Change> = None;
+    let mut found: Option<(usize, Change)> = None;
     for j in 0..CARDS {
         match (marks.solve(s, j), &found) {
-            (Some(new), Some(old)) if new != *old => return Found::Several(j),
-            (Some(new), None) => found = Some(new),
+            (Some(new), Some((lowest, old))) if new != *old => return Found::Several(*lowest),
+            (Some(new), None) => found = Some((j, new)),
             _ => {}
         }
     }
-    found.map_or(Found::None, Found::One)
+    found.map_or(Found::None, |(_, change)| Found::One(change))
 }
 
 /// The kind of a change, by document 01's words.

@@ -27,3 +27,11 @@ use livomashen::Refusal;
 fn number<T>(said: Result<T, Refusal>) -> Result<T, u8> {
     said.map_err(Refusal::number)
 }
+
+/// A refusal by its number and the card that it names; 0 where it names none.
+fn told<T>(said: Result<T, Refusal>) -> Result<T, (u8, u8)> {
+    said.map_err(|refusal| match refusal {
+        Refusal::Several { card } => (11, card),
+        other => (other.number(), 0),
+    })
+}

@@ -15,7 +15,7 @@ use native.Mathlib.Omega.{arith}
 use lib.Dec.{T, ltb, leb}
 use borrow.Author.Tests.{ltb-true, ltb-false, leb-true, le-ltb}
 use Rattle.base.specs.Base.{if}
-use Rattle.answer.specs.Answer.{Answer, refused, but-card, By}
+use Rattle.answer.specs.Answer.{Answer, refused, By}
 use Rattle.answer.specs.Cause.{Cause, cause, lesser, lowest}
 
 -- ---- the lowest number is the least of those that hold
@@ -188,17 +188,16 @@ by-map zero a U D U′ D′ f g d = g refl d
 by-map (suc n) a U D U′ D′ f g (e, u) = (e, f u)
 
 -- ---- a call made twice
--- the answers are the same, but for the card with 11, and so is what is left
+-- the answers are the same, and so is what is left
 abbrev pub Agreed : {A : Type 0} → Answer → Answer → A → A → Type 0
-Agreed a a′ x x′ = (but-card a ≡ but-card a′) × (x ≡ x′)
+Agreed a a′ x x′ = (a ≡ a′) × (x ≡ x′)
 
 pub by-agree : {A : Type 0} (n : ℕ) (a a′ : Answer) (old x x′ : A) (D D′ : Type 0) → By n a (x ≡ old) D → By n a′ (x′ ≡ old) D′ → (D → D′ → Agreed a a′ x x′)
     → Agreed a a′ x x′
 by-agree zero a a′ old x x′ D D′ w v f = f w v
-by-agree (suc n) a a′ old x x′ D D′ (e, u) (e′, u′) f = (ap but-card (e ∙ sym e′), u ∙ sym u′)
+by-agree (suc n) a a′ old x x′ D D′ (e, u) (e′, u′) f = (e ∙ sym e′, u ∙ sym u′)
 
 -- of a call that leaves nothing
-pub by-same : (n : ℕ) (a a′ : Answer) (D D′ : Type 0) → By n a (Unit {0}) D → By n a′ (Unit {0}) D′ → (D → D′ → but-card a ≡ but-card a′)
-    → but-card a ≡ but-card a′
+pub by-same : (n : ℕ) (a a′ : Answer) (D D′ : Type 0) → By n a (Unit {0}) D → By n a′ (Unit {0}) D′ → (D → D′ → a ≡ a′) → a ≡ a′
 by-same zero a a′ D D′ w v f = f w v
-by-same (suc n) a a′ D D′ (e, u) (e′, u′) f = ap but-card (e ∙ sym e′)
+by-same (suc n) a a′ D D′ (e, u) (e′, u′) f = e ∙ sym e′

@@ -2,7 +2,6 @@
 --
 --   Answer            every answer of every call
 --   number            01's number of a refusal, 0 where nothing is refused
---   but-card          the answer, but for the card of a refusal
 --   outcome-answer    what an Outcome stands for
 --   By                what a call does, by its cause: a refused call says the number, and leaves what it was lent as it was
 --
@@ -34,16 +33,6 @@ number (in-card j n) = 0
 number (counted a b c d e) = 0
 number (refused n) = n
 number (refused-card n j) = n
-
--- the answer, but for the card that is returned with a refusal
-abbrev pub but-card : Answer → Answer
-but-card done = done
-but-card clean = clean
-but-card (in-chips n) = in-chips n
-but-card (in-card j n) = in-card j n
-but-card (counted a b c d e) = counted a b c d e
-but-card (refused n) = refused n
-but-card (refused-card n j) = refused-card n 0
 
 abbrev pub outcome-answer : Outcome → Answer
 outcome-answer Done = done

@@ -1,11 +1,11 @@
--- What a call on a bank does is decided: two outcomes on the same bytes agree in the answer, but for the card with 11, and in every byte.
+-- What a call on a bank does is decided: two outcomes on the same bytes agree in the answer and in every byte.
 --
 --   clear-decided, put-decided, get-decided, patrol-decided, report-decided
 use Prim.Native.Nat.{ℕ}
 use mathlib.Core.Path.{_≡_, sym, ap, _∙_}
 use mathlib.Core.List.{List}
 use lib.ListN.{length}
-use Rattle.answer.specs.Answer.{Answer, but-card}
+use Rattle.answer.specs.Answer.{Answer}
 use Rattle.answer.proofs.Causes.{Agreed, by-agree}
 use Rattle.marks.specs.declared.Marks.{Marks}
 use Rattle.reading.proofs.Agree.{under-agree}
@@ -19,12 +19,12 @@ module _ (bank : List ℕ) (a a′ : Answer) (x x′ : List ℕ) where
   pub clear-decided : ClearDone bank a x → ClearDone bank a′ x′ → Agreed a a′ x x′
   unfolding ClearDone
   clear-decided w v =
-      by-agree (clear-cause (length bank)) a a′ bank x x′ _ _ w v (λ d d′. (ap but-card (d .0 ∙ sym (d′ .0)), d .1 ∙ sym (d′ .1)))
+      by-agree (clear-cause (length bank)) a a′ bank x x′ _ _ w v (λ d d′. (d .0 ∙ sym (d′ .0), d .1 ∙ sym (d′ .1)))
 
   pub put-decided : (k : ℕ) (rec r r′ : List ℕ) → PutDone bank k rec a x r → PutDone bank k rec a′ x′ r′ → Agreed a a′ x x′ × (r ≡ r′)
   put-decided k rec r r′ w v = (
     by-agree (put-cause (length bank) k (length rec)) a a′ bank x x′ _ _ (w .put) (v .put)
-        (λ d d′. (ap but-card (d .0 ∙ sym (d′ .0)), d .1 .2 ∙ ap (with-block bank k) (sym (d .1 .1 .1 (d′ .1 .0) (d′ .1 .1 .0))) ∙ sym (d′ .1 .2))),
+        (λ d d′. (d .0 ∙ sym (d′ .0), d .1 .2 ∙ ap (with-block bank k) (sym (d .1 .1 .1 (d′ .1 .0) (d′ .1 .1 .0))) ∙ sym (d′ .1 .2))),
     w .lent ∙ sym (v .lent),
   )
 

@@ -2,7 +2,7 @@
 --
 --   extended         the answers below n, and a at n; extended-at, extended-below: what it gives there
 --   extended-reads   where n blocks read so, and the next as a, n + 1 blocks do
---   told-alike       what does not tell the card of "several" says the same of two readings of one block
+--   each-alike       two readings of each block are the same
 --   counts-agree     a report that is refused both times, or counts the same blocks both times, answers the same
 use Prim.Native.Nat.{ℕ, zero, suc, _+_, _<_}
 use mathlib.Core.Path.{_≡_, refl, sym, ap, _∙_}
@@ -15,7 +15,7 @@ use borrow.Author.Tests.{eq-eqb, ne-eqb}
 use Rattle.base.specs.Base.{if}
 use Rattle.base.proofs.Tests.{same}
 use Rattle.base.proofs.Tally.{tally-ext}
-use Rattle.answer.specs.Answer.{Answer, done, clean, in-chips, in-card, counted, refused, refused-card, but-card, By}
+use Rattle.answer.specs.Answer.{Answer, By}
 use Rattle.marks.specs.declared.Marks.{Marks}
 use Rattle.reading.specs.Reading.{ReadsUnder}
 use Rattle.reading.proofs.Agree.{under-agree}
@@ -40,29 +40,19 @@ module _ (b : ℕ → List ℕ) (m : Marks) (f : ℕ → Answer) (n : ℕ) (a : 
       each k (inl z) h = rw (z, extended-at f n a) r
       each k (inr z) h = let l : k < n = omega arith in rw (extended-below f n a k l) (w k l)
 
--- ---- two readings of one block
-card-free : {X : Type 0} (g : Answer → X) → ((n j : ℕ) → g (refused-card n j) ≡ g (refused-card n 0)) → (a : Answer) → g a ≡ g (but-card a)
-card-free g h done = refl
-card-free g h clean = refl
-card-free g h (in-chips n) = refl
-card-free g h (in-card j n) = refl
-card-free g h (counted v w x y z) = refl
-card-free g h (refused n) = refl
-card-free g h (refused-card n j) = h n j
-
-pub told-alike : {X : Type 0} (g : Answer → X) → ((n j : ℕ) → g (refused-card n j) ≡ g (refused-card n 0)) → (m : Marks) (b : List ℕ) (a a′ : Answer)
-    → ((x : List ℕ) × ReadsUnder m b [] a x) → ((x : List ℕ) × ReadsUnder m b [] a′ x) → g a ≡ g a′
-told-alike g h m b a a′ r r′ =
-    card-free g h a
-    ∙ ap g (under-agree m b [] a a′ (r .0) (r′ .0) (r .1) (r′ .1) .0)
-    ∙ sym (card-free g h a′)
-
+-- ---- two readings of each block
 module _ (b : ℕ → List ℕ) (n : ℕ) (m : Marks) where
+  pub each-alike : (f f′ : ℕ → Answer) → EachReads b n m f → EachReads b n m f′ → (k : ℕ) → k < n → f k ≡ f′ k
+  each-alike f f′ w v k l =
+      let r = w k l in
+      let r′ = v k l in
+      under-agree m (b k) [] (f k) (f′ k) (r .0) (r′ .0) (r .1) (r′ .1) .0
+
   totals-agree : (f f′ : ℕ → Answer) → EachReads b n m f → EachReads b n m f′ → totals f n ≡ totals f′ n
   totals-agree f f′ w v = rw (each 0, each 1, each 2, each 3, each 4)
     where
       each : (i : ℕ) → how-many f n i ≡ how-many f′ n i
-      each i = tally-ext n _ _ (λ k l. ap (λ (c : ℕ). eqb c i) (told-alike class (λ p j. refl) m (b k) (f k) (f′ k) (w k l) (v k l)))
+      each i = tally-ext n _ _ (λ k l. ap (λ (a : Answer). eqb (class a) i) (each-alike f f′ w v k l))
 
   pub counts-agree : (c : ℕ) (a a′ : Answer) → By c a (Unit {0}) (CountsEach b n m a) → By c a′ (Unit {0}) (CountsEach b n m a′) → a ≡ a′
   counts-agree zero a a′ d d′ = d .2 ∙ totals-agree (d .0) (d′ .0) (d .1) (d′ .1) ∙ sym (d′ .2)

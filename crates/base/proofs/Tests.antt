@@ -29,6 +29,10 @@ lt-or-le a b = go (ltb a b) refl
     go true e = inl (ltb-true a b e)
     go false e = inr (ltb-false a b e)
 
+pub is-true : (t : Bool) → T t → t ≡ true
+is-true true h = refl
+is-true false h = absurd h
+
 -- ---- a joined test, taken apart
 pub and-true : (s t : Bool) → (s && t) ≡ true → (s ≡ true) × (t ≡ true)
 and-true true t e = (refl, e)
@@ -98,12 +102,15 @@ pub every-of : (f : ℕ → Bool) (n : ℕ) → ((i : ℕ) → i < n → T (f i)
 every-of f zero h = tt
 every-of f (suc n) h = both-of (f n) (every f n) (h n (lt-suc-self n)) (every-of f n (λ i l. h i (lt-trans l (lt-suc-self n))))
 
--- ---- a search below n: one that has the property, or none has
-pub find : (P : ℕ → Type 0) (n : ℕ) → ((i : ℕ) → i < n → P i ⊎ (P i → ⊥)) → ((i : ℕ) × (i < n) × P i) ⊎ ((i : ℕ) → i < n → P i → ⊥)
+-- ---- a search below n: the lowest that has the property, or none has
+abbrev pub Found : (ℕ → Type 0) → ℕ → Type 0
+Found P n = ((i : ℕ) × (i < n) × P i × ((k : ℕ) → k < i → P k → ⊥)) ⊎ ((i : ℕ) → i < n → P i → ⊥)
+
+pub find : (P : ℕ → Type 0) (n : ℕ) → ((i : ℕ) → i < n → P i ⊎ (P i → ⊥)) → Found P n
 find P zero d = inr (λ i l. absurd (not-suc-le-zero l))
-find P (suc n) d = go (d n (lt-suc-self n)) (find P n (λ i l. d i (lt-trans l (lt-suc-self n))))
+find P (suc n) d = go (find P n (λ i l. d i (lt-trans l (lt-suc-self n)))) (d n (lt-suc-self n))
   where
-    go : P n ⊎ (P n → ⊥) → ((i : ℕ) × (i < n) × P i) ⊎ ((i : ℕ) → i < n → P i → ⊥) → ((i : ℕ) × (i < suc n) × P i) ⊎ ((i : ℕ) → i < suc n → P i → ⊥)
-    go (inl h) r = inl (n, lt-suc-self n, h)
-    go (inr h) (inl w) = inl (w .0, lt-trans (w .1) (lt-suc-self n), w .2)
-    go (inr h) (inr w) = inr (below-suc (λ i. P i → ⊥) n h w)
+    go : Found P n → P n ⊎ (P n → ⊥) → Found P (suc n)
+    go (inl w) h = inl (w .0, lt-trans (w .1) (lt-suc-self n), w .2, w .3)
+    go (inr w) (inl h) = inl (n, lt-suc-self n, h, w)
+    go (inr w) (inr h) = inr (below-suc (λ i. P i → ⊥) n h w)

@@ -1,7 +1,7 @@
 -- Every reading that is not refused says exactly what S is, and clean exactly of a lawful block.
 --
 --   one-not-none, one-not-two   a set with one member is not empty, and has not two
---   accepted-exactly, exactly, clean-exactly   THE STATEMENTS
+--   accepted-exactly, exactly, names-exactly, clean-exactly   THE STATEMENTS
 use mathlib.Core.Logic.{_↔_}
 use mathlib.Core.Path.{_≡_, refl, sym, ap, _∙_, subst}
 use mathlib.Core.List.{List}
@@ -17,10 +17,11 @@ use Rattle.code.specs.Block.{Lawful, OneMember, NoMember, TwoMembers}
 use Rattle.code.specs.Labels.{built-in}
 use Rattle.code.proofs.BuiltIn.{built-in-set}
 use Rattle.reading.specs.Allowed.{OfChipKind}
-use Rattle.reading.specs.Reading.{ReadsUnder}
+use Rattle.reading.specs.Reading.{LowestReaching, ReadsUnder}
+use Rattle.reading.proofs.Agree.{under-agree}
 use Rattle.reading.proofs.Facts.{unchanged, clean-only, clean-lawful}
 use Rattle.block.specs.Read.{read-cause, is-corrected, record-in}
-use Rattle.block.specs.Exactly.{Fits, AcceptedExactly, ReadsExactly, CleanExactly}
+use Rattle.block.specs.Exactly.{Fits, AcceptedExactly, ReadsExactly, NamesExactly, CleanExactly}
 use Rattle.block.proofs.Causes.{read-none, read-marks, mend-none, mend-marks, part-whole}
 
 one-not-none : (P : List ℕ → Type 0) (x : List ℕ) → OneMember P x → NoMember P → ⊥
@@ -74,6 +75,16 @@ pub exactly : ReadsExactly
 unfolding Exact
 exactly b m out a b′ out′ e h = exact b m out out′ a (by-accepted (read-cause (length b) m (length out)) a (out′ ≡ out) (ReadsUnder m b out a out′) e
     (h .output))
+
+pub names-exactly : NamesExactly
+names-exactly b m out a b′ out′ e h j =
+    (forth, λ t. under-agree m b out a (refused-card 11 j) out′ out w (refl, t .0, t .1, refl) .0)
+  where
+    w : ReadsUnder m b out a out′
+    w = by-accepted (read-cause (length b) m (length out)) a (out′ ≡ out) (ReadsUnder m b out a out′) e (h .output)
+
+    forth : a ≡ refused-card 11 j → TwoMembers (Fits m b) × LowestReaching built-in (marked-chips m) b j
+    forth q = let v = subst (λ (x : Answer). ReadsUnder m b out x out′) q w in (v .1, v .2)
 
 pub clean-exactly : CleanExactly
 clean-exactly b m out a b′ out′ bb e h = ((forth, back a w), whole)

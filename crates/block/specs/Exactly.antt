@@ -1,19 +1,19 @@
--- Demand 3, first sentence, and demand 2, second sentence, as statements about every reading that is not refused.
+-- Demand 3, first sentence, demand 2, second sentence, and order 6, as statements about every reading that is not refused.
 --
 --   AcceptedExactly   not refused, exactly when
---   ReadsExactly      corrected, "none" and "several", each exactly when
+--   ReadsExactly      corrected, "none" and "several", each exactly when; NamesExactly: "several" with card j, exactly when
 --   CleanExactly      clean exactly for the lawful blocks
 use mathlib.Core.Logic.{_↔_}
 use mathlib.Core.Path.{_≡_}
 use mathlib.Core.List.{List}
 use Prim.Native.Nat.{ℕ}
 use lib.ListN.{length, take}
-use Rattle.answer.specs.Answer.{Answer, clean, number}
+use Rattle.answer.specs.Answer.{Answer, clean, refused-card, number}
 use Rattle.marks.specs.Marks.{marked-chips, LawfulMarks}
 use Rattle.marks.specs.declared.Marks.{Marks}
 use Rattle.code.specs.Block.{Block, Lawful, OneMember, NoMember, TwoMembers}
 use Rattle.code.specs.Labels.{built-in}
-use Rattle.reading.specs.Reading.{S}
+use Rattle.reading.specs.Reading.{S, LowestReaching}
 use Rattle.block.specs.Read.{read-cause, mend-cause, ReadDone, record-in}
 
 -- the set S of a block under a mark record
@@ -33,6 +33,11 @@ ReadsExactly = (b : List ℕ) (m : Marks) (out : List ℕ) (a : Answer) (b′ ou
     × (number a ≡ 0 → OneMember (Fits m b) out′)
     × (number a ≡ 10 ↔ NoMember (Fits m b))
     × (number a ≡ 11 ↔ TwoMembers (Fits m b))
+
+-- order 6: "the lowest-numbered one whose card-kind change reaches a lawful block"
+abbrev pub NamesExactly : Type 0
+NamesExactly = (b : List ℕ) (m : Marks) (out : List ℕ) (a : Answer) (b′ out′ : List ℕ) → read-cause (length b) m (length out) ≡ 0
+    → ReadDone b m out a b′ out′ → (j : ℕ) → (a ≡ refused-card 11 j) ↔ (TwoMembers (Fits m b) × LowestReaching built-in (marked-chips m) b j)
 
 -- "Each block that meets them reads as its first 34 bytes and is reported clean, and no other block is."
 abbrev pub CleanExactly : Type 0

@@ -7,11 +7,11 @@ use mathlib.Core.Path.{_≡_, refl, sym, ap, _∙_, subst}
 use mathlib.Core.List.{List, [], _∷_, _++_}
 use native.Mathlib.Omega.{arith}
 use lib.ListN.{length, length-append}
-use Rattle.book.specs.Book.{Entry, Seen, Book, fresh-book, Booked, Step}
+use Rattle.book.specs.Book.{Entry, Seen, Book, Booked, Step}
 use Rattle.book.specs.Kept.{CallsGiveLastPut}
 use Rattle.book.proofs.Whole.{whole}
 use Rattle.book.proofs.Record.{gets-last-put}
-use Rattle.book.proofs.Agree.{one-after}
+use Rattle.book.proofs.Agree.{one-book}
 
 -- as many are seen as there are entries
 as-many : (es : List Entry) (ss : List Seen) {b b′ : Book} → Booked b es ss b′ → length es ≡ length ss
@@ -29,5 +29,5 @@ pub calls-give-last-put : CallsGiveLastPut
 calls-give-last-put n lo hi es ss k out e s r b w o z d =
     let v = whole n lo hi (es ++ (e ∷ [])) (ss ++ (s ∷ [])) r in
     let l = last es ss e s (v .1) in
-    let q = one-after es ss (fresh-book n) (l .0) b (l .1) w in
+    let q = one-book n es ss ss (l .0) b (l .1) w .1 in
     gets-last-put n lo hi es ss b w k out e o s (v .0) (subst (λ (x : Book). Step x e s (v .0)) q (l .2)) z d

@@ -1,4 +1,4 @@
--- The book, and lists of calls, register writes and hits. Document 01, "The book"; demand 3, second sentence; document 02, orders 1 to 3.
+-- The book, and lists of calls, register writes and hits. Document 01, "The book"; demand 3, second sentence; document 02, orders 1 to 3 and 6.
 --
 --   Call, Entry      a call's arguments; an entry of the list: a call, a register write, or a hit
 --   Rest, State      what is kept from one entry to the next: the bank, the window, and the rest, which is the registers; the marks in force
@@ -9,13 +9,13 @@
 --   CallSays         what the book says of a call; CommandSays: of a command, which stands for one; WriteSays: of a register write
 --   Step, Booked     what it says of an entry, of a list of entries
 --   WholeList        all that is seen of any list is what the book says
---   OneBook          the book says one thing, but for the card with 11
+--   OneBook          the book says one thing; TwoCabinets: a list, run twice, shows the same
 use Prim.Native.Nat.{ℕ, zero, suc, _*_, _/_, _%_, _≤_, _<_}
 use mathlib.Core.Path.{_≡_}
 use mathlib.Core.Bool.{Bool}
 use mathlib.Core.List.{List, [], _∷_, _++_}
 use lib.ListN.{length, replicate, getD, set}
-use Rattle.answer.specs.Answer.{Answer, done, but-card, By}
+use Rattle.answer.specs.Answer.{Answer, done, By}
 use Rattle.marks.specs.Mark.{mark-cause, marked, MarkDone}
 use Rattle.marks.specs.declared.Marks.{Marks}
 use Rattle.marks.specs.declared.MarkCall.{MarkCall}
@@ -29,7 +29,6 @@ use Rattle.bank.specs.Calls.{clear-cause, put-cause, get-cause, patrol-cause, r
 use Rattle.bank.specs.Calls.{ClearDone, PutDone, GetDone, PatrolDone, ReportDone, CountsEach}
 use Rattle.registers.specs.Registers.{fresh-registers, raised}
 use Rattle.registers.specs.Write.{command-of, ran, stored, write-cause, WriteDone}
-use Rattle.registers.specs.Plain.{but-card-registers}
 use Rattle.registers.specs.declared.Registers.{Registers}
 use Rattle.registers.specs.declared.Command.{Command}
 use Rattle.registers.specs.declared.Command.the-variants.{Get, Patrol, Mark, Unknown}
@@ -257,31 +256,11 @@ pub data Booked : Book → List Entry → List Seen → Book → Type 0 where
 abbrev pub WholeList : Type 0
 WholeList = (n : ℕ) → 1 ≤ n → n ≤ 1024 → (es : List Entry) (ss : List Seen) → Ran (fresh-state n) es ss → (b : Book) × Booked (fresh-book n) es ss b
 
--- ---- the book says one thing
--- the same is said, but for "The card with 11 may be any that its row allows.", which is told by an answer and by byte 5
-abbrev pub but-card-said : Said → Said
-but-card-said (says a) = says (but-card a)
-but-card-said nothing-said = nothing-said
-
-abbrev pub but-card-rest : Rest → Rest
-but-card-rest w = rest-of (but-card-registers (w .registers))
-
-abbrev pub but-card-seen : Seen → Seen
-but-card-seen s = record {
-  said = but-card-said (s .said);
-  output = s .output;
-  after = state (s .after .bank) (but-card-rest (s .after .rest)) (s .after .window);
-  interrupt = s .interrupt;
-  proposal = s .proposal;
-}
-
-abbrev pub but-cards : List Seen → List Seen
-but-cards [] = []
-but-cards (s ∷ ss) = but-card-seen s ∷ but-cards ss
-
-abbrev pub but-card-book : Book → Book
-but-card-book b = record { good = b .good; held = b .held; rest = but-card-rest (b .rest); run = b .run }
-
+-- ---- the book says one thing: what is said, told and left is decided by the list alone
 abbrev pub OneBook : Type 0
 OneBook = (n : ℕ) (es : List Entry) (ss ss′ : List Seen) (b b′ : Book) → Booked (fresh-book n) es ss b → Booked (fresh-book n) es ss′ b′
-    → (but-cards ss ≡ but-cards ss′) × (but-card-book b ≡ but-card-book b′)
+    → (ss ≡ ss′) × (b ≡ b′)
+
+-- order 6: two cabinets with the same calls, writes and damage show the same
+abbrev pub TwoCabinets : Type 0
+TwoCabinets = (n : ℕ) → 1 ≤ n → n ≤ 1024 → (es : List Entry) (ss ss′ : List Seen) → Ran (fresh-state n) es ss → Ran (fresh-state n) es ss′ → ss ≡ ss′

@@ -3,3 +3,4 @@ pub mod Written
 pub mod Gives
 pub mod Told
 pub mod Tied
+pub mod Decided

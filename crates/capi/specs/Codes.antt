@@ -91,7 +91,7 @@ by-number n a b = if (eqb n 0) a b
 unfoldable pub corrected-as : ℕ → ℕ → ℕ → Answer
 corrected-as kind j n = if (eqb kind 0) clean (if (eqb kind 1) (in-chips n) (in-card j n))
 
--- "with 11, one that fits"
+-- "with 11, the lowest that fits"
 unfoldable pub refused-as : ℕ → ℕ → Answer
 refused-as n j = if (eqb n 11) (refused-card n j) (refused n)
 

@@ -13,3 +13,4 @@ pub mod Members
 pub mod Stored
 pub mod Tied
 pub mod Differing
+pub mod AllOrOne

@@ -1,5 +1,5 @@
--- What `decode` gives is decided: two outcomes for the same sums and marks answer alike, but for the card with 11, do the same to
--- every block, and list the same positions.
+-- What `decode` gives is decided: two outcomes for the same sums and marks answer alike, do the same to every block, and list the
+-- same positions.
 --
 --   acts-alike      changes that make the same of one block make the same of every block
 --   decodes-agree   of sums that are a block's
@@ -14,7 +14,7 @@ use lib.ListN.{length}
 use borrow.Author.Tests.{ne-eqb}
 use Rattle.base.specs.Base.{if}
 use Rattle.base.proofs.Tests.{same}
-use Rattle.answer.specs.Answer.{Answer, number, refused, but-card}
+use Rattle.answer.specs.Answer.{Answer, number, refused}
 use Rattle.field.specs.Field.{_⊕_}
 use Rattle.field.proofs.Xor.{add-self-left}
 use Rattle.code.specs.Block.{byte, Block, block-of, zeros, differing}
@@ -56,9 +56,9 @@ acts-alike d d′ b l e c = pick (same (length c) 45)
         (λ p h. applied-at c d k p h ∙ ap (λ (x : ℕ). byte c p ⊕ x) (added p h) ∙ sym (applied-at c d′ k p h))
     pick (inr n) = other d n ∙ sym (other d′ n)
 
--- the answers, but for the card with 11, what the changes make of any bytes, and the positions that `changed` lists
+-- the answers, what the changes make of any bytes, and the positions that `changed` lists
 pub record SameOutcome (r r′ : Decoded) : Type 0 where
-  pub answer : but-card (reading-answer (r .reading)) ≡ but-card (reading-answer (r′ .reading))
+  pub answer : reading-answer (r .reading) ≡ reading-answer (r′ .reading)
   pub made : (c : List ℕ) → applied c (r .change) ≡ applied c (r′ .change)
   pub listed : (ps ps′ : Positions) → Listed (r .change) ps → Listed (r′ .change) ps′ → ps ≡ ps′
 
@@ -74,8 +74,7 @@ list-alike d d′ w w′ e ps ps′ l l′ = l .whole ∙ ap filled (is d ps l �
 pub decodes-agree : (s : Sums) (m : Marks) (r r′ : Decoded) → Decodes s m r → Decodes s m r′ → (b : List ℕ) → Block b → IsSums built-in b s → SameOutcome r r′
 decodes-agree s m r r′ w v b bb is = go (marks-cause m) refl
   where
-    outcome : but-card (reading-answer (r .reading)) ≡ but-card (reading-answer (r′ .reading)) → ((c : List ℕ) → applied c (r .change) ≡ applied c (r′ .change))
-        → SameOutcome r r′
+    outcome : reading-answer (r .reading) ≡ reading-answer (r′ .reading) → ((c : List ℕ) → applied c (r .change) ≡ applied c (r′ .change)) → SameOutcome r r′
     outcome a h = record { answer = a; made = h; listed = list-alike (r .change) (r′ .change) (w .formed) (v .formed) (h zeros) }
 
     go : (n : ℕ) → marks-cause m ≡ n → SameOutcome r r′
@@ -91,7 +90,7 @@ decodes-agree s m r r′ w v b bb is = go (marks-cause m) refl
         let refuses : (x : Answer) → x ≡ refused (marks-cause m) → number x ≢ 0 = λ x q z. ne (sym (ap number q) ∙ z) in
         let none = w .unchanged (refuses (reading-answer (r .reading)) k) in
         let none′ = v .unchanged (refuses (reading-answer (r′ .reading)) k′) in
-        outcome (ap but-card (k ∙ sym k′)) (λ c. ap (applied c) (none ∙ sym none′))
+        outcome (k ∙ sym k′) (λ c. ap (applied c) (none ∙ sym none′))
 
 pub decodes-one : (s : Sums) → s .low < 2 ^ 64 → s .high < 2 ^ 8 → s .once < 2 ^ 8 → s .squared < 2 ^ 8 → (m : Marks) (r r′ : Decoded)
     → Decodes s m r → Decodes s m r′ → SameOutcome r r′

@@ -3,7 +3,6 @@
 --   from-keep, to-keep          the chips on the card itself make no difference
 --   passed                      a card that reaches nothing
 --   first-found, second-found   one that reaches a block not of the chip kind, the first one or the second
---   several-kept                two members stay two, however many cards are left
 --   none-reads, several-reads, card-reads, chips-reads   the answers
 use mathlib.Core.Logic.{_≢_, _⊎_, inl, inr}
 use mathlib.Core.Path.{_≡_, refl, sym, _∙_, subst}
@@ -17,17 +16,16 @@ use Rattle.answer.specs.Answer.{in-card, refused, refused-card}
 use Rattle.code.specs.Block.{Block, OneMember}
 use Rattle.code.specs.Labels.{LabelSet}
 use Rattle.code.specs.Reach.{rules, Beside, keep, Reached}
-use Rattle.code.proofs.Few.{in-keep, keep-in, keep-beside, widen, between}
-use Rattle.code.proofs.Unique.{alike}
+use Rattle.code.proofs.Few.{in-keep, keep-in, keep-beside, widen}
 use Rattle.marks.specs.declared.CardMark.the-variants.{None}
 use Rattle.change.specs.Change.{applied, weight}
 use Rattle.change.specs.declared.Change.{Change}
 use Rattle.change.proofs.Weight.{changes-weight, unmoved, moved}
 use Rattle.reading.specs.Allowed.{further, ChipKind}
-use Rattle.reading.specs.Reading.{S, reading-answer, Reads}
+use Rattle.reading.specs.Reading.{S, LowestReaching, reading-answer, Reads}
 use Rattle.reading.specs.declared.Reading.the-variants.{Corrected}
 use Rattle.reading.proofs.Searches.{covered, covers}
-use Rattle.reading.proofs.Facts.{chip-one, apart, by-marked, reaches}
+use Rattle.reading.proofs.Facts.{chip-one, reached-one, apart, by-marked, reaches, reached-by}
 use Rattle.decode.specs.Equations.{Within}
 use Rattle.decode.specs.Search.{strays, chips-kind, NoneBut, Looked}
 use Rattle.decode.proofs.Kind.{formed, chip-yes, chip-no}
@@ -57,17 +55,6 @@ module _ (ls : List ℕ) (j : ℕ) (ps b x : List ℕ) where
       each p l (inr i) = in-keep j p ps i
 
 module _ (ls : List ℕ) (ok : LabelSet ls) (ps : List ℕ) (few : Few rules ps) (b : List ℕ) where
-  -- a card reaches at most one block
-  one-card : (j : ℕ) → j < 5 → (x y : List ℕ) → Reached ls j ps b x → Reached ls j ps b y → x ≡ y
-  one-card j hj x y h g =
-      alike ls ok j hj ps few x y (h .block) (h .lawful) (g .block) (g .lawful)
-      (widen (λ p. ((p / 9 ≡ j) ⊎ In p ps) ⊎ ((p / 9 ≡ j) ⊎ In p ps)) (λ p. (p / 9 ≡ j) ⊎ In p ps) x y either-side
-      (between (λ p. (p / 9 ≡ j) ⊎ In p ps) (λ p. (p / 9 ≡ j) ⊎ In p ps) b x y (h .only) (g .only)))
-    where
-      either-side : (p : ℕ) → p < 45 → ((p / 9 ≡ j) ⊎ In p ps) ⊎ ((p / 9 ≡ j) ⊎ In p ps) → (p / 9 ≡ j) ⊎ In p ps
-      either-side p l (inl z) = z
-      either-side p l (inr z) = z
-
   -- ---- one card more
   more : (j : ℕ) (P : ℕ → Type 0) → (P j ⊎ ((x : List ℕ) → Reached ls j ps b x → ⊥)) → NoneBut ls ps b j P → NoneBut ls ps b (j + 1) P
   more j P n h i l ne x r = pick (same i j)
@@ -98,15 +85,15 @@ module _ (ls : List ℕ) (ok : LabelSet ls) (ps : List ℕ) (few : Few rules ps)
       λ e. n (by-marked ps b y (apart ps b y card j (λ z. omega (arith, below)) (q .only)
           (subst (λ (z : List ℕ). Reached ls j ps b z) (sym e) r .only))),
     ),
-    reaches ls ps b card (omega arith) y q,
+    (reaches ls ps b card (omega arith) y q, λ k l r. let w = reached-by ls ps b k r .1 in none k (omega (arith, below)) (λ z. omega arith) (w .0) (w .1)),
   )
 
   -- ---- the answers
   pub none-reads : (card : ℕ) → Looked ls ps b 5 0 card → Reads ls None ps b b (refused 10) b
   none-reads card h = (refl, (λ y m. let w = covered ls ps b y m in h (w .0) (w .1) (λ z. z) y (w .2)), refl)
 
-  pub several-reads : (card : ℕ) → Looked ls ps b 5 2 card → Reads ls None ps b b (refused-card 11 card) b
-  several-reads card h = (refl, h .0, h .1, refl)
+  pub several-reads : (card : ℕ) → Looked ls ps b 5 2 card → (j : ℕ) → j ≡ card → Reads ls None ps b b (refused-card 11 j) b
+  several-reads card h j e = (refl, h .0, subst (LowestReaching ls ps b) (sym e) (h .1), refl)
 
   module _ (bb : Block b) (j : ℕ) (hj : j < 5) (d : Change) (w : Within j (keep j ps) d) (r : Reached ls j (keep j ps) b (applied b d)) where
     off : Beside j (keep j ps)
@@ -120,7 +107,7 @@ module _ (ls : List ℕ) (ok : LabelSet ls) (ps : List ℕ) (few : Few rules ps)
 
     pub card-reads : Looked ls ps b 5 1 j → Reads ls None ps b b (in-card j (weight d)) (applied b d)
     card-reads (below, (x, q, n), none) =
-        let e : x ≡ applied b d = one-card j hj x (applied b d) q reached in (
+        let e : x ≡ applied b d = reached-one ls ok ps few b j hj x (applied b d) q reached in (
           (covers ls ps b (applied b d) j hj reached, λ y m. let v = covered ls ps b y m in pick y (v .0) (v .1) (v .2) (same (v .0) j)),
           sym (changes-weight d (formed d j hj (keep j ps) w off) b (bb .long)),
           subst (λ (z : List ℕ). ChipKind ps b z → ⊥) e n,
@@ -128,7 +115,7 @@ module _ (ls : List ℕ) (ok : LabelSet ls) (ps : List ℕ) (few : Few rules ps)
         )
       where
         pick : (y : List ℕ) (i : ℕ) → i < 5 → Reached ls i ps b y → (i ≡ j) ⊎ (i ≢ j) → y ≡ applied b d
-        pick y i hi v (inl z) = one-card j hj y (applied b d) (subst (λ (k : ℕ). Reached ls k ps b y) z v) reached
+        pick y i hi v (inl z) = reached-one ls ok ps few b j hj y (applied b d) (subst (λ (k : ℕ). Reached ls k ps b y) z v) reached
         pick y i hi v (inr z) = absurd (none i hi z y v)
 
     pub chips-reads : strays d ps ≤ further (length ps) → Reads ls None ps b b (reading-answer (Corrected (chips-kind (weight d)))) (applied b d)

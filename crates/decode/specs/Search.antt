@@ -20,7 +20,7 @@ use Rattle.sums.specs.declared.Sums.{Sums}
 use Rattle.change.specs.Change.{applied, nonzero-at}
 use Rattle.change.specs.declared.Change.{Change}
 use Rattle.reading.specs.Allowed.{ChipKind}
-use Rattle.reading.specs.Reading.{S, Reaches}
+use Rattle.reading.specs.Reading.{S, LowestReaching}
 use Rattle.reading.specs.declared.Kind.{Kind}
 use Rattle.reading.specs.declared.Kind.the-variants.{Clean, Chips, OneCard}
 use Rattle.decode.specs.Equations.{fits-by, rows-only}
@@ -56,12 +56,12 @@ card-kind j (suc own) n = OneCard j n
 abbrev pub NoneBut : List ℕ → List ℕ → List ℕ → ℕ → (ℕ → Type 0) → Type 0
 NoneBut labels ps b j P = (i : ℕ) → i < j → (P i → ⊥) → (x : List ℕ) → Reached labels i ps b x → ⊥
 
--- none reaches a block; one does, not of the chip kind; two do
+-- none reaches a block; one does, not of the chip kind; two do, and card is the lowest that does
 abbrev pub Looked : List ℕ → List ℕ → List ℕ → ℕ → ℕ → ℕ → Type 0
 Looked labels ps b j zero card = NoneBut labels ps b j (λ i. ⊥)
 Looked labels ps b j (suc zero) card =
     (card < j) × ((x : List ℕ) × Reached labels card ps b x × (ChipKind ps b x → ⊥)) × NoneBut labels ps b j (λ i. i ≡ card)
-Looked labels ps b j (suc (suc n)) card = TwoMembers (S labels None ps b) × Reaches labels ps b card
+Looked labels ps b j (suc (suc n)) card = TwoMembers (S labels None ps b) × LowestReaching labels ps b card
 
 pub record Held (labels : List ℕ) (s : Sums) (ps : List ℕ) (j found card t₁ t₂ : ℕ) : Type 0 where
   pub below : card < 5

@@ -1,8 +1,9 @@
 // The reading of a block from its eleven sums, under any marks: a search for the lawful blocks that the marks allow.
 //
 // With no card marked the five cards are searched, each with the marked chips. A change of the chip kind reaches the only member of S,
-// and two cards that are not of the chip kind reach different blocks, so that no block is compared with another. The block itself is not
-// looked at: what is said holds for every block with these sums.
+// and two cards that are not of the chip kind reach different blocks, so that no block is compared with another. The cards are searched
+// from 0 up, so that the first that is found is the lowest. The block itself is not looked at: what is said holds for every block with
+// these sums.
 ghost use mathlib.Core.Path.{_≡_};
 ghost use mathlib.Core.List.{[]};
 ghost use Prim.Native.Nat.{_<_};

@@ -4,14 +4,14 @@
 --   generator    each nonzero value is a power of 2 below the 255th
 use mathlib.Core.Logic.{_≢_, inl, inr}
 use mathlib.Core.Path.{_≡_, refl, sym, ap, _∙_, subst}
-use mathlib.Core.Bool.{Bool, true, false}
+use mathlib.Core.Bool.{Bool}
 use mathlib.Core.List.{List, [], _∷_}
 use Prim.Native.Nat.{ℕ, zero, suc, _+_, _<_, _^_}
 use native.Mathlib.Omega.{arith}
 use lib.Dec.{T, eqb}
 use borrow.Author.Tests.{ne-eqb}
 use Rattle.base.specs.Base.{In, is-in}
-use Rattle.base.proofs.Tests.{either, every, every-at}
+use Rattle.base.proofs.Tests.{is-true, either, every, every-at}
 use Rattle.base.proofs.Lists.{is-in-in}
 use Rattle.field.specs.Field.{_⊕_, _·_, power}
 use Rattle.field.proofs.Product.{times-x, x-lt}
@@ -42,7 +42,3 @@ generator x h ne =
     let w = in-run 255 0 1 x (omega arith) refl (is-in-in x (run 255 1) (is-true (is-in x (run 255 1))
     (subst (λ (t : Bool). T (either t (is-in x (run 255 1)))) (ne-eqb x 0 ne) (every-at (λ x. either (eqb x 0) (is-in x (run 255 1))) 256 passes x h)))) in
     (w .0, omega (arith, w .1), sym (w .2))
-  where
-    is-true : (t : Bool) → T t → t ≡ true
-    is-true true q = refl
-    is-true false q = absurd q

@@ -15,7 +15,7 @@ Small clean = Unit {0}
 Small (in-chips n) = n < 100
 Small (in-card j n) = (j < 10) × (n < 100)
 Small (refused n) = Unit {0}
-Small (refused-card n j) = Unit {0}
+Small (refused-card n j) = j < 10
 Small done = Unit {0}
 Small (counted v w x y z) = Unit {0}
 
@@ -27,7 +27,7 @@ block-length k clean h s = omega arith
 block-length k (in-chips n) h s = simp length-append (omega (arith, short 3 k h, short 1 n s))
 block-length k (in-card j n) h s = simp length-append (omega (arith, short 3 k h, short 0 j (s .0), short 1 n (s .1)))
 block-length k (refused n) h s = simp length-append (omega (arith, short 3 k h))
-block-length k (refused-card n j) h s = simp length-append (omega (arith, short 3 k h))
+block-length k (refused-card n j) h s = simp length-append (omega (arith, short 3 k h, short 0 j s))
 block-length k done h s = omega arith
 block-length k (counted v w x y z) h s = omega arith
 

@@ -20,7 +20,7 @@ refusal = refl
 
 blocks : block-line 0 clean
     ++ (block-line 10 (in-chips 1) ++ (block-line 109 (in-card 4 11) ++ (block-line 1023 (refused 10) ++ block-line 7 (refused-card 11 3))))
-    ≡ ascii "10 chips 1\n109 card 4 11\n1023 none\n7 several\n"
+    ≡ ascii "10 chips 1\n109 card 4 11\n1023 none\n7 several 3\n"
 unfolding decimal digits-up-to
 blocks = refl
 

@@ -1,4 +1,4 @@
--- The lines of text that the bank program prints, as ASCII codes. Document 01, "The bank program".
+-- The lines of text that the bank program prints, as ASCII codes. Document 01, "The bank program"; document 02, order 6.
 --
 --   ascii "word"        the codes of a text's characters
 --   decimal n           the decimal digits of n, with no zero in front; "0" for 0
@@ -45,14 +45,14 @@ decimal n = digits-up-to (suc n) n
 abbrev pub count-line : ℕ → List ℕ
 count-line n = line (ascii "blocks" ∷ decimal n ∷ [])
 
--- "a line for each block that is not clean, with block number, then `chips` and n, or `card`, card number and n, or `none`, or `several`";
--- a reading gives no other answer, "none" is its only refusal without a card
+-- "a line for each block that is not clean, with block number, then `chips` and n, or `card`, card number and n, or `none`, or
+-- `several`"; order 6: "becomes `several` and that card"; a reading gives no other answer, "none" is its only refusal without a card
 abbrev pub block-line : ℕ → Answer → List ℕ
 block-line k clean = []
 block-line k (in-chips n) = line (decimal k ∷ ascii "chips" ∷ decimal n ∷ [])
 block-line k (in-card j n) = line (decimal k ∷ ascii "card" ∷ decimal j ∷ decimal n ∷ [])
 block-line k (refused n) = line (decimal k ∷ ascii "none" ∷ [])
-block-line k (refused-card n j) = line (decimal k ∷ ascii "several" ∷ [])
+block-line k (refused-card n j) = line (decimal k ∷ ascii "several" ∷ decimal j ∷ [])
 block-line k done = []
 block-line k (counted v w x y z) = []
 

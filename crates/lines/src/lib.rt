@@ -33,14 +33,16 @@ pub fn card_line(k: u16, j: u8, n: u8, out: &mut [u8], at: usize) -> usize
 pub fn none_line(k: u16, out: &mut [u8], at: usize) -> usize
     ensures { λ r. ⌜ Put (block-line k (refused 10)) (now (out .entry)) at r (now (out .exit)) ⌝ }
 {
-    word_line(k, b" none\n", out, at)
+    let named = number(k as u64, out, at);
+    put(b" none\n", out, named)
 }
 
-// Block k reads as "several".
-pub fn several_line(k: u16, out: &mut [u8], at: usize) -> usize
-    ensures { λ r. ⌜ Put (block-line k (refused-card 11 0)) (now (out .entry)) at r (now (out .exit)) ⌝ }
+// Block k reads as "several", with card j.
+pub fn several_line(k: u16, j: u8, out: &mut [u8], at: usize) -> usize
+    ensures { λ r. ⌜ Put (block-line k (refused-card 11 j)) (now (out .entry)) at r (now (out .exit)) ⌝ }
 {
-    word_line(k, b" several\n", out, at)
+    let named = number(k as u64, out, at);
+    number_line(b" several ", j as u64, out, named)
 }
 
 pub fn totals_line(
@@ -93,15 +95,6 @@ fn per_thousand(sound: u32, n: u32) -> u64
         return 0;
     }
     (2000 * (sound as u64) + n as u64) / (2 * (n as u64))
-}
-
-// The block number and the word, which ends the line.
-fn word_line(k: u16, word: &[u8], out: &mut [u8], at: usize) -> usize
-    ensures { λ r. ⌜ Put (decimal k ++ now (word .entry)) (now (out .entry)) at r (now (out .exit)) ⌝ }
-    ensures { λ _. ⌜ now (word .exit) ≡ now (word .entry) ⌝ }
-{
-    let named = number(k as u64, out, at);
-    put(word, out, named)
 }
 
 // The word, the number and the newline.

@@ -12,7 +12,7 @@ use native.Mathlib.Omega.{arith}
 use lib.Dec.{eqb}
 use lib.ListN.{length}
 use borrow.Author.Tests.{ltb-true, lt-ltb, eqb-true, ne-eqb, not-false}
-use Rattle.answer.specs.Answer.{Answer, but-card}
+use Rattle.answer.specs.Answer.{Answer}
 use Rattle.answer.proofs.Causes.{Agreed, by-agree}
 use Rattle.base.specs.Base.{if, In}
 use Rattle.base.proofs.Few.{few-in, few-length}
@@ -102,4 +102,4 @@ mark-leaves m LiftCard e = (refl, refl)
 -- ---- what it does is decided
 pub mark-decided : (m : Marks) (c : MarkCall) (a a′ : Answer) (x x′ : Marks) → MarkDone m c a x → MarkDone m c a′ x′ → Agreed a a′ x x′
 unfolding MarkDone
-mark-decided m c a a′ x x′ w v = by-agree (mark-cause m c) a a′ m x x′ _ _ w v (λ d d′. (ap but-card (d .0 ∙ sym (d′ .0)), d .1 ∙ sym (d′ .1)))
+mark-decided m c a a′ x x′ w v = by-agree (mark-cause m c) a a′ m x x′ _ _ w v (λ d d′. (d .0 ∙ sym (d′ .0), d .1 ∙ sym (d′ .1)))

@@ -4,7 +4,7 @@
 --   report-agrees   two reports of one bank under the same marks give the same answer
 --   decided         two texts of one input are equal
 --   say-decided     two outcomes of `say` on the same bytes are equal
-use mathlib.Core.Path.{_≡_, refl, sym, ap, ap₂, _∙_, subst}
+use mathlib.Core.Path.{_≡_, sym, ap, ap₂, _∙_, subst}
 use mathlib.Core.Logic.{_⊎_, inl, inr, ⊎-elim}
 use mathlib.Core.List.{List, _++_}
 use Prim.Native.Nat.{ℕ, _-_, _≤_, _<_}
@@ -14,7 +14,7 @@ use lib.ListN.{length, drop}
 use Rattle.answer.specs.Answer.{Answer, done, clean, in-chips, in-card, counted, refused, refused-card}
 use Rattle.marks.specs.declared.Marks.{Marks}
 use Rattle.bank.specs.Calls.{block, blocks, report-cause, EachReads, ReportDone}
-use Rattle.bank.proofs.Each.{told-alike, counts-agree}
+use Rattle.bank.proofs.Each.{each-alike, counts-agree}
 use Rattle.lines.specs.Lines.{block-line, totals-line, sound-line, count-line}
 use Rattle.program.specs.Program.{input-bank, input-marks, block-lines, PrintsReport, Prints, SayDone}
 use Rattle.program.proofs.Blocks.{lines-agree}
@@ -22,7 +22,7 @@ use Rattle.program.proofs.Blocks.{lines-agree}
 pub texts-agree : (bank : List ℕ) (m : Marks) (f f′ : ℕ → Answer) → EachReads (block bank) (blocks bank) m f → EachReads (block bank) (blocks bank) m f′
     → block-lines f (blocks bank) ≡ block-lines f′ (blocks bank)
 texts-agree bank m f f′ r r′ =
-    lines-agree f f′ (blocks bank) (λ k l. told-alike (block-line k) (λ n j. refl) m (block bank k) (f k) (f′ k) (r k l) (r′ k l))
+    lines-agree f f′ (blocks bank) (λ k l. ap (block-line k) (each-alike (block bank) (blocks bank) m f f′ r r′ k l))
 
 pub report-agrees : (bank bank′ bank″ : List ℕ) (m : Marks) (a a′ : Answer) → ReportDone bank m a bank′ → ReportDone bank m a′ bank″ → a ≡ a′
 report-agrees bank bank′ bank″ m a a′ d d′ =

@@ -39,7 +39,7 @@ small m b clean x l r = tt
 small m b (in-chips n) x l r = few-changes b x n (r .2)
 small m b (in-card j n) x l r = (on-card (m .card) j (marked-chips m) b x (l .card) (r .3), few-changes b x n (r .1))
 small m b (refused n) x l r = tt
-small m b (refused-card n j) x l r = tt
+small m b (refused-card n j) x l r = omega (arith, r .2 .0 .0)
 small m b done x l r = tt
 small m b (counted v w y z u) x l r = tt
 

@@ -1,18 +1,22 @@
--- Texts of banks whose readings are given, and of inputs that are refused, by computation.
+-- Texts of 01's sample, of a bank whose readings are given, and of inputs that are refused, by computation.
 --
---   sample   the output of document 01, "The bank program", in full
+--   sample   the output of document 01, "The bank program", in full, of its input
 --   order    a line for each block that is not clean, in turn, and the totals in theirs
 --   three-bytes, no-bank   too few bytes for the marks; marks, and no bank
-use mathlib.Core.Path.{_≡_, refl}
+use mathlib.Core.Path.{_≡_, refl, sym}
 use mathlib.Core.List.{List, [], _∷_}
-use Prim.Native.Nat.{ℕ, zero, suc}
+use Prim.Native.Nat.{ℕ, zero, suc, _<_}
 use native.Mathlib.Omega.{arith}
 use Rattle.base.specs.Base.{tally}
-use Rattle.answer.specs.Answer.{Answer, clean, in-chips, in-card, refused, refused-card}
+use Rattle.answer.specs.Answer.{Answer, clean, in-chips, in-card, counted, refused, refused-card}
 use Rattle.marks.specs.Marks.{marks-in, of-bytes, in-range, two-equal}
-use Rattle.bank.specs.Calls.{how-many, report-cause}
+use Rattle.code.specs.Block.{zeros}
+use Rattle.reading.specs.Reading.{ReadsUnder}
+use Rattle.table.proofs.Table.{starred}
+use Rattle.bank.specs.Calls.{block, how-many, report-cause}
 use Rattle.lines.specs.Lines.{ascii, digits-up-to, decimal, per-thousand}
-use Rattle.program.specs.Program.{bank-text, Prints}
+use Rattle.program.specs.Program.{input-marks, input-bank, bank-text, Prints}
+use Rattle.program.specs.Sample.{sample-input, sample-text, SamplePrints}
 
 -- the text of n blocks that read so
 abbrev text : (ℕ → Answer) → ℕ → List ℕ
@@ -22,9 +26,23 @@ abbrev two : ℕ → Answer
 two zero = clean
 two (suc k) = refused-card 11 0
 
-sample : text two 2 ≡ ascii "blocks 2\n1 several\nclean 1 chips 0 card 0 none 0 several 1\nsound 500\n"
+two-text : text two 2 ≡ sample-text
 unfolding tally decimal digits-up-to per-thousand
-sample = refl
+two-text = refl
+
+-- both blocks are rows of the starred table
+two-read : (k : ℕ) → k < 2 → (x : List ℕ) × ReadsUnder (input-marks sample-input) (block (input-bank sample-input) k) [] (two k) x
+unfolding marks-in of-bytes
+two-read zero h = (zeros, starred .0 .reading [] clean zeros .1 (refl, refl))
+two-read (suc zero) h = ([], starred .1 .1 .0 .reading [] (refused-card 11 0) [] .1 (refl, refl))
+two-read (suc (suc k)) h = absurd (omega arith)
+
+pub sample : SamplePrints
+unfolding report-cause marks-in of-bytes in-range two-equal tally
+sample = record {
+  short = λ h. absurd (omega arith);
+  otherwise = λ h. (counted 1 0 0 0 1, record { kept = refl; answer = (two, two-read, refl) }, (two, two-read, sym two-text));
+}
 
 abbrev six : ℕ → Answer
 six zero = refused 10

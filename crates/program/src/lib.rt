@@ -67,7 +67,7 @@ fn block_line(k: u16, r: reading::Reading, out: &mut [u8], at: usize) -> usize
 {
     match r {
         reading::Reading::Corrected(kind) => corrected_line(k, kind, out, at),
-        reading::Reading::Several(_) => lines::several_line(k, out, at),
+        reading::Reading::Several(j) => lines::several_line(k, j, out, at),
         reading::Reading::Refused(_) => lines::none_line(k, out, at),
     }
 }

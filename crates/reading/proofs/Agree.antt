@@ -1,14 +1,15 @@
--- One block has one reading: two readings of it under the same marks say the same, but for the card with 11.
+-- One block has one reading: two readings of it under the same marks say the same.
 --
---   one-kind      a corrected block has one kind
---   reads-agree   two readings of one block under the same marks agree in the answer, but for that card, and in the output
+--   one-kind      a corrected block has one kind; one-lowest: there is one lowest card
+--   reads-agree   two readings of one block under the same marks agree in the answer and in the output
 --   under-agree   the same under a mark record, with the built-in labels
 use mathlib.Core.Logic.{_≢_, _⊎_, inl, inr}
 use mathlib.Core.Path.{_≡_, refl, sym, ap, ap₂, _∙_, subst}
 use mathlib.Core.List.{List}
-use Prim.Native.Nat.{ℕ}
-use Rattle.base.proofs.Tests.{same}
-use Rattle.answer.specs.Answer.{Answer, done, clean, in-chips, in-card, counted, refused, refused-card, but-card}
+use Prim.Native.Nat.{ℕ, _<_, _≤_}
+use native.Mathlib.Omega.{arith}
+use Rattle.base.proofs.Tests.{same, lt-or-le}
+use Rattle.answer.specs.Answer.{Answer, done, clean, in-chips, in-card, counted, refused, refused-card}
 use Rattle.answer.proofs.Causes.{Agreed}
 use Rattle.code.specs.Block.{changes, OneMember, NoMember, TwoMembers}
 use Rattle.code.specs.Labels.{built-in}
@@ -17,7 +18,7 @@ use Rattle.marks.specs.declared.Marks.{Marks}
 use Rattle.marks.specs.declared.CardMark.{CardMark}
 use Rattle.marks.specs.declared.CardMark.the-variants.{None, Card}
 use Rattle.reading.specs.Allowed.{OfChipKind}
-use Rattle.reading.specs.Reading.{S, OnCard, Reads, ReadsUnder}
+use Rattle.reading.specs.Reading.{S, LowestReaching, OnCard, Reads, ReadsUnder}
 use Rattle.reading.proofs.Facts.{apart, by-marked, unchanged}
 
 -- the card that a change not of the chip kind is told by
@@ -40,14 +41,14 @@ module _ (ls : List ℕ) (c : CardMark) (ps b out : List ℕ) where
   data Outcome (x : List ℕ) : Answer → Type 0 where
     corrected : {a : Answer} → OneMember (S ls c ps b) x → Kind x a → Outcome x a
     none : NoMember (S ls c ps b) → x ≡ out → Outcome x (refused 10)
-    several : (j : ℕ) → TwoMembers (S ls c ps b) → x ≡ out → Outcome x (refused-card 11 j)
+    several : (j : ℕ) → TwoMembers (S ls c ps b) → LowestReaching ls ps b j → x ≡ out → Outcome x (refused-card 11 j)
 
   outcome : (a : Answer) (x : List ℕ) → Reads ls c ps b out a x → Outcome x a
   outcome clean x h = corrected (h .0) (as-clean (h .1))
   outcome (in-chips n) x h = corrected (h .0) (as-chips n (h .1) (h .2) (h .3))
   outcome (in-card j n) x h = corrected (h .0) (as-card j n (h .1) (h .2) (h .3))
   outcome (refused n) x h = subst (λ (k : ℕ). Outcome x (refused k)) (sym (h .0)) (none (h .1) (h .2))
-  outcome (refused-card n j) x h = subst (λ (k : ℕ). Outcome x (refused-card k j)) (sym (h .0)) (several j (h .1) (h .3))
+  outcome (refused-card n j) x h = subst (λ (k : ℕ). Outcome x (refused-card k j)) (sym (h .0)) (several j (h .1) (h .2) (h .3))
   outcome done x h = absurd h
   outcome (counted v w y z u) x h = absurd h
 
@@ -65,21 +66,29 @@ module _ (ls : List ℕ) (c : CardMark) (ps b out : List ℕ) where
   one-kind x a a′ (as-card j n k o w) (as-chips n′ f k′ o′) = absurd (o o′)
   one-kind x a a′ (as-card j n k o w) (as-card j′ n′ k′ o′ w′) = ap₂ in-card (one-card c ps b x j j′ o w w′) (k ∙ sym k′)
 
+  one-lowest : (i j : ℕ) → LowestReaching ls ps b i → LowestReaching ls ps b j → i ≡ j
+  one-lowest i j h g = pick (lt-or-le i j) (lt-or-le j i)
+    where
+      pick : (i < j) ⊎ (j ≤ i) → (j < i) ⊎ (i ≤ j) → i ≡ j
+      pick (inl l) k = absurd (g .1 i (omega arith) (h .0))
+      pick (inr l) (inl k) = absurd (h .1 j (omega arith) (g .0))
+      pick (inr l) (inr k) = omega arith
+
   two-in-one : (x : List ℕ) → OneMember (S ls c ps b) x → TwoMembers (S ls c ps b) → ⊥
   two-in-one x o t = t .4 (o .1 (t .0) (t .2) ∙ sym (o .1 (t .1) (t .3)))
 
-  agree : (a a′ : Answer) (x x′ : List ℕ) → Outcome x a → Outcome x′ a′ → (but-card a ≡ but-card a′) × (x ≡ x′)
+  agree : (a a′ : Answer) (x x′ : List ℕ) → Outcome x a → Outcome x′ a′ → Agreed a a′ x x′
   agree a a′ x x′ (corrected o k) (corrected o′ k′) =
       let e : x′ ≡ x = o .1 x′ (o′ .0) in
-      (ap but-card (one-kind x a a′ k (subst (λ (y : List ℕ). Kind y a′) e k′)), sym e)
+      (one-kind x a a′ k (subst (λ (y : List ℕ). Kind y a′) e k′), sym e)
   agree a a′ x x′ (corrected o k) (none n e) = absurd (n x (o .0))
-  agree a a′ x x′ (corrected o k) (several j t e) = absurd (two-in-one x o t)
+  agree a a′ x x′ (corrected o k) (several j t r e) = absurd (two-in-one x o t)
   agree a a′ x x′ (none n e) (corrected o k) = absurd (n x′ (o .0))
   agree a a′ x x′ (none n e) (none n′ e′) = (refl, e ∙ sym e′)
-  agree a a′ x x′ (none n e) (several j t e′) = absurd (n (t .0) (t .2))
-  agree a a′ x x′ (several j t e) (corrected o k) = absurd (two-in-one x′ o t)
-  agree a a′ x x′ (several j t e) (none n e′) = absurd (n (t .0) (t .2))
-  agree a a′ x x′ (several j t e) (several j′ t′ e′) = (refl, e ∙ sym e′)
+  agree a a′ x x′ (none n e) (several j t r e′) = absurd (n (t .0) (t .2))
+  agree a a′ x x′ (several j t r e) (corrected o k) = absurd (two-in-one x′ o t)
+  agree a a′ x x′ (several j t r e) (none n e′) = absurd (n (t .0) (t .2))
+  agree a a′ x x′ (several j t r e) (several j′ t′ r′ e′) = (ap (refused-card 11) (one-lowest j j′ r r′), e ∙ sym e′)
 
   pub reads-agree : (a a′ : Answer) (x x′ : List ℕ) → Reads ls c ps b out a x → Reads ls c ps b out a′ x′ → Agreed a a′ x x′
   reads-agree a a′ x x′ h h′ = agree a a′ x x′ (outcome a x h) (outcome a′ x′ h′)

@@ -10,7 +10,7 @@ use Rattle.code.specs.Block.{TwoMembers}
 use Rattle.code.proofs.Few.{keep-short}
 use Rattle.marks.specs.declared.CardMark.the-variants.{None, Card}
 use Rattle.reading.specs.Allowed.{u, further-beside, BesideUpTo, BesideKind, CardChanged}
-use Rattle.reading.specs.Reading.{LawfulIn, S, ReadsBy}
+use Rattle.reading.specs.Reading.{LawfulIn, S, LowestReaching, ReadsBy}
 use Rattle.reading.specs.Before.{u-before, AllowedBefore, SBefore}
 use Rattle.reading.specs.Before.{OnlyGrows, OneStays, NeverSeveral, CorrectedStill, SameWithoutCard, SameBesideCard}
 use Rattle.reading.proofs.Beside.{beside-fewer, more-further, u-off}
@@ -66,4 +66,4 @@ same-beside-card ls j ps off b out a x = (subst By (sym (u-off j ps off)), subst
     By : ℕ → Type 0
     By n =
         ReadsBy (LawfulIn ls (λ y. BesideUpTo (further-beside n) j ps b y)) (λ y. BesideUpTo (further-beside n) j ps b y × (CardChanged j b y → ⊥))
-        ls (Card j) ps b out a x
+        (LowestReaching ls ps b) (Card j) ps b out a x

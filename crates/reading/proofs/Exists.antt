@@ -16,7 +16,7 @@ use lib.Dec.{T, eqb}
 use lib.ListN.{length}
 use borrow.Author.Tests.{eq-eqb, ne-eqb}
 use Rattle.base.specs.Base.{In, is-in, tally, Few}
-use Rattle.base.proofs.Tests.{same, find}
+use Rattle.base.proofs.Tests.{same, Found, find}
 use Rattle.base.proofs.Lists.{in-is-in, is-in-in}
 use Rattle.base.proofs.Tally.{clash, tally-none, tally-one, tally-some, tally-two}
 use Rattle.answer.specs.Answer.{Answer, clean, in-chips, in-card, refused, refused-card}
@@ -30,10 +30,10 @@ use Rattle.marks.specs.Marks.{CardInRange}
 use Rattle.marks.specs.declared.CardMark.{CardMark}
 use Rattle.marks.specs.declared.CardMark.the-variants.{None, Card}
 use Rattle.reading.specs.Allowed.{further, ChipKind, CardChanged, OfChipKind}
-use Rattle.reading.specs.Reading.{S, OnCard, Reads}
+use Rattle.reading.specs.Reading.{S, LowestReaching, OnCard, Reads}
 use Rattle.reading.proofs.Beside.{in-kept, in-from}
 use Rattle.reading.proofs.Searches.{further-one, covered, covers, beside-chips, beside-few, covered-beside, covers-beside}
-use Rattle.reading.proofs.Facts.{card-one}
+use Rattle.reading.proofs.Facts.{card-one, reaches, reached-by}
 
 Either : Type 0 → Type 0
 Either P = P ⊎ (P → ⊥)
@@ -54,7 +54,7 @@ alike-or-not x y lx ly = go (find (λ p. byte x p ≢ byte y p) 45 (λ p l. diff
     equal p h (inl e) = e
     equal p h (inr n) = absurd (h n)
 
-    go : ((p : ℕ) × (p < 45) × (byte x p ≢ byte y p)) ⊎ ((p : ℕ) → p < 45 → byte x p ≢ byte y p → ⊥) → (x ≡ y) ⊎ (x ≢ y)
+    go : Found (λ p. byte x p ≢ byte y p) 45 → (x ≡ y) ⊎ (x ≢ y)
     go (inl w) = inr (λ e. w .2 (ap (λ (l : List ℕ). byte l (w .0)) e))
     go (inr h) = inl (same-block x y lx ly (λ p l. equal p (h p l) (same (byte x p) (byte y p))))
 
@@ -136,8 +136,7 @@ card-changed j b x = go (find (λ p. (p / 9 ≡ j) × (byte b p ≢ byte x p)) 4
     at p (inl e) (inr h) = inr (λ w. h (w .1))
     at p (inr e) d = inr (λ w. e (w .0))
 
-    go : ((p : ℕ) × (p < 45) × ((p / 9 ≡ j) × (byte b p ≢ byte x p))) ⊎ ((p : ℕ) → p < 45 → (p / 9 ≡ j) × (byte b p ≢ byte x p) → ⊥)
-        → CardChanged j b x ⊎ (CardChanged j b x → ⊥)
+    go : Found (λ p. (p / 9 ≡ j) × (byte b p ≢ byte x p)) 45 → CardChanged j b x ⊎ (CardChanged j b x → ⊥)
     go (inl w) = inl (w .0, w .1, w .2 .0, w .2 .1)
     go (inr h) = inr (λ w. h (w .0) (w .1) (w .2, w .3))
 
@@ -167,7 +166,7 @@ module _ (ls : List ℕ) (ok : LabelSet ls) (ps : List ℕ) (few : Few rules ps)
       go (inr n) (inl k) = (in-chips (changes b x), x, (one, n, refl, k))
       go (inr n) (inr h) = let w = on-card c x (one .0) in (in-card (w .0) (changes b x), x, (one, refl, h, w .1))
 
-  reached-or-not : (j : ℕ) → j < 5 → (qs : List ℕ) → Few rules qs → ((x : List ℕ) × Reached ls j qs b x) ⊎ ((x : List ℕ) → Reached ls j qs b x → ⊥)
+  pub reached-or-not : (j : ℕ) → j < 5 → (qs : List ℕ) → Few rules qs → ((x : List ℕ) × Reached ls j qs b x) ⊎ ((x : List ℕ) → Reached ls j qs b x → ⊥)
   reached-or-not j hj qs fq = go (fits ls j (keep j qs) b) refl
     where
       go : (t : Bool) → fits ls j (keep j qs) b ≡ t → ((x : List ℕ) × Reached ls j qs b x) ⊎ ((x : List ℕ) → Reached ls j qs b x → ⊥)
@@ -217,9 +216,7 @@ module _ (ls : List ℕ) (ok : LabelSet ls) (ps : List ℕ) (few : Few rules ps)
       off : Beside m qs
       off = keep-beside m ps few
 
-      go : ((f : ℕ) × (f < 45) × ((x : List ℕ) × Reached ls m (beside-chips qs f) b x))
-          ⊎ ((f : ℕ) → f < 45 → (x : List ℕ) × Reached ls m (beside-chips qs f) b x → ⊥)
-          → (a : Answer) × (x : List ℕ) × Reads ls (Card m) ps b out a x
+      go : Found (λ f. (x : List ℕ) × Reached ls m (beside-chips qs f) b x) 45 → (a : Answer) × (x : List ℕ) × Reads ls (Card m) ps b out a x
       go (inl w) =
           let s = in-from m ps b (w .2 .0) ls (covers-beside m b (w .2 .0) ls qs (off .1) (w .0) (w .2 .1)) in
           told (Card m) out (w .2 .0) (s, λ y t. card-one ls ok ps few b m hm y (w .2 .0) t s)
@@ -227,10 +224,9 @@ module _ (ls : List ℕ) (ok : LabelSet ls) (ps : List ℕ) (few : Few rules ps)
           (refused 10, out, (refl, (λ y t. let w = covered-beside m b y ls qs (off .1) (in-kept m ps b y ls t) in h (w .0) (w .1) (y, w .2)), refl))
   reads-exist None r out = go (find (λ j. Some j ps) 5 (λ j l. search-of j l ps few))
     where
-      go : ((j : ℕ) × (j < 5) × ((x : List ℕ) × Reached ls j ps b x)) ⊎ ((j : ℕ) → j < 5 → (x : List ℕ) × Reached ls j ps b x → ⊥)
-          → (a : Answer) × (x : List ℕ) × Reads ls None ps b out a x
+      go : Found (λ j. (x : List ℕ) × Reached ls j ps b x) 5 → (a : Answer) × (x : List ℕ) × Reads ls None ps b out a x
       go (inr h) = (refused 10, out, (refl, (λ y t. let w = covered ls ps b y t in h (w .0) (w .1) (y, w .2)), refl))
-      go (inl (j, hj, (x, h))) = at (find (Other x) 5 (λ i l. other-or-not x (h .block) i l))
+      go (inl (j, hj, (x, h), below)) = at (find (Other x) 5 (λ i l. other-or-not x (h .block) i l))
         where
           mine : S ls None ps b x
           mine = covers ls ps b x j hj h
@@ -239,10 +235,10 @@ module _ (ls : List ℕ) (ok : LabelSet ls) (ps : List ℕ) (few : Few rules ps)
           same-as y i g none (inl e) = e
           same-as y i g none (inr n) = absurd (none (y, g, n))
 
-          at : ((i : ℕ) × (i < 5) × ((y : List ℕ) × Reached ls i ps b y × (y ≢ x))) ⊎ ((i : ℕ) → i < 5 → (y : List ℕ) × Reached ls i ps b y × (y ≢ x) → ⊥)
-              → (a : Answer) × (x : List ℕ) × Reads ls None ps b out a x
-          at (inl (i, hi, (y, g, n))) =
-              (refused-card 11 j, out, (refl, (y, x, covers ls ps b y i hi g, mine, n), (hj, (x, h .block, h .lawful, h .only)), refl))
+          at : Found (λ i. (y : List ℕ) × Reached ls i ps b y × (y ≢ x)) 5 → (a : Answer) × (x : List ℕ) × Reads ls None ps b out a x
+          at (inl (i, hi, (y, g, n), z)) =
+              let lowest : LowestReaching ls ps b j = (reaches ls ps b j hj x h, λ k l r. below k l (reached-by ls ps b k r .1)) in
+              (refused-card 11 j, out, (refl, (y, x, covers ls ps b y i hi g, mine, n), lowest, refl))
           at (inr none) = told None out x (
             mine,
             λ y t. let w = covered ls ps b y t in

@@ -1,11 +1,12 @@
 -- Facts about S that users rely on, the marked chips ps being at most two.
 --
 --   chip-one     a member of S by a change of the chip kind is the only one: such damage never reads as several
+--   reached-one  a card and the marked chips reach one lawful block at most
 --   card-one     under a card mark S has at most one member; not-several: and so not two
 --   as-unmarked  under a card mark a block reads as it does with the marked chips off that card alone; reads-alike: what it rests on
 --   apart        what two cards reach alike lies in marked chips; by-marked: which is of the chip kind
 --   never-none   with two chip marks and no card mark S is never empty
---   reaches      any card may be given with 11 that reaches a lawful block; reached-by: and only such a card
+--   reaches      a card by which a lawful block is reached; reached-by: and the block
 --   unchanged    a change of no byte is of the chip kind
 --   by-card      under a card mark "card", with its number, is said where a byte of that card is changed; card-told: and only there;
 --                chips-told: "chips" only where none is
@@ -13,7 +14,7 @@
 use mathlib.Core.Logic.{_≢_, _⊎_, inl, inr, _↔_}
 use mathlib.Core.Path.{_≡_, refl, sym, ap, _∙_, subst}
 use mathlib.Core.List.{List, [], _∷_, _++_}
-use Prim.Native.Nat.{ℕ, _+_, _/_, _<_}
+use Prim.Native.Nat.{ℕ, _/_, _<_}
 use native.Mathlib.Omega.{arith}
 use lib.Dec.{T}
 use lib.ListN.{length, length-append}
@@ -33,7 +34,7 @@ use Rattle.marks.specs.Marks.{CardInRange}
 use Rattle.marks.specs.declared.CardMark.{CardMark}
 use Rattle.marks.specs.declared.CardMark.the-variants.{None, Card}
 use Rattle.reading.specs.Allowed.{u, further-beside, ChipKind, CardKind, BesideUpTo, Allowed, CardChanged, OfChipKind}
-use Rattle.reading.specs.Reading.{S, Reaches, ReadsBy, Reads}
+use Rattle.reading.specs.Reading.{S, Reaches, LowestReaching, ReadsBy, Reads}
 use Rattle.base.proofs.Lists.{append-in}
 use Rattle.reading.proofs.Beside.{beside-both, by-kept, kind-kept, kind-from, in-kept, in-from}
 use Rattle.reading.proofs.Searches.{further-most, covered, covers}
@@ -52,7 +53,7 @@ apart ps b x i j ne g h p l = go (g p l) (h p l)
 pub by-marked : (ps b x : List ℕ) → DifferOnly (λ p. In p ps) b x → ChipKind ps b x
 by-marked ps b x h = ([], omega arith, widen (λ p. In p ps) (λ p. In p ps ⊎ In p []) b x (λ p l i. inl i) h)
 
--- ---- any card may be given with 11 that reaches a lawful block
+-- ---- a card by which a lawful block is reached
 pub reaches : (ls ps b : List ℕ) (j : ℕ) → j < 5 → (y : List ℕ) → Reached ls j ps b y → Reaches ls ps b j
 reaches ls ps b j hj y h = (hj, (y, h .block, h .lawful, h .only))
 
@@ -101,6 +102,16 @@ module _ (ls : List ℕ) (ok : LabelSet ls) (ps : List ℕ) (few : Few rules ps)
       each j qs c p l (inl i) = inr (c p l (append-in p ps fs i))
       each j qs c p l (inr (inl e)) = inl e
       each j qs c p l (inr (inr i)) = inr (c p l (append-in p ps fs (inl i)))
+
+  pub reached-one : (j : ℕ) → j < 5 → (x y : List ℕ) → Reached ls j ps b x → Reached ls j ps b y → x ≡ y
+  reached-one j hj x y h g =
+      alike ls ok j hj ps few x y (h .block) (h .lawful) (g .block) (g .lawful)
+      (widen (λ p. ((p / 9 ≡ j) ⊎ In p ps) ⊎ ((p / 9 ≡ j) ⊎ In p ps)) (λ p. (p / 9 ≡ j) ⊎ In p ps) x y either-side
+      (between (λ p. (p / 9 ≡ j) ⊎ In p ps) (λ p. (p / 9 ≡ j) ⊎ In p ps) b x y (h .only) (g .only)))
+    where
+      either-side : (p : ℕ) → p < 45 → ((p / 9 ≡ j) ⊎ In p ps) ⊎ ((p / 9 ≡ j) ⊎ In p ps) → (p / 9 ≡ j) ⊎ In p ps
+      either-side p l (inl z) = z
+      either-side p l (inr z) = z
 
   pub card-one : (m : ℕ) → m < 5 → (x y : List ℕ) → S ls (Card m) ps b x → S ls (Card m) ps b y → x ≡ y
   card-one m hm x y s t = go (by-kept m ps b x (further-beside (u (Card m) ps)) (s .allowed)) (by-kept m ps b y (further-beside (u (Card m) ps)) (t .allowed))
@@ -159,9 +170,9 @@ clean-lawful ls c ps b out out′ h = subst (Lawful ls) (h .1) (h .0 .0 .lawful)
 
 -- ---- the marks on the marked card
 -- under a card mark, two sets with the same members and the same kinds read alike, where there are not two
-module _ (ls : List ℕ) (j : ℕ) (ps qs b out : List ℕ) (P Q K L : List ℕ → Type 0) (to : (x : List ℕ) → P x → Q x) (from : (x : List ℕ) → Q x → P x)
+module _ (j : ℕ) (ps qs b out : List ℕ) (P Q K L : List ℕ → Type 0) (N M : ℕ → Type 0) (to : (x : List ℕ) → P x → Q x) (from : (x : List ℕ) → Q x → P x)
     (chip-to : (x : List ℕ) → K x → L x) (chip-from : (x : List ℕ) → L x → K x) (one : TwoMembers P → ⊥) where
-  reads-alike : (a : Answer) (x : List ℕ) → ReadsBy P K ls (Card j) ps b out a x → ReadsBy Q L ls (Card j) qs b out a x
+  reads-alike : (a : Answer) (x : List ℕ) → ReadsBy P K N (Card j) ps b out a x → ReadsBy Q L M (Card j) qs b out a x
   reads-alike clean x ((h, only), e) = ((to x h, λ y t. only y (from y t)), e)
   reads-alike (in-chips n) x ((h, only), ne, e, k) = ((to x h, λ y t. only y (from y t)), ne, e, chip-to x k)
   reads-alike (in-card i n) x ((h, only), e, k, on) = ((to x h, λ y t. only y (from y t)), e, (λ l. k (chip-from x l)), on)
@@ -177,10 +188,12 @@ module _ (ls : List ℕ) (ok : LabelSet ls) (j : ℕ) (hj : j < 5) (b : List ℕ
   pub as-unmarked : (ps : List ℕ) → Few rules ps → (out : List ℕ) (a : Answer) (x : List ℕ)
       → Reads ls (Card j) ps b out a x ↔ Reads ls (Card j) (keep j ps) b out a x
   as-unmarked ps few out a x = (
-    reads-alike ls j ps qs b out (S ls (Card j) ps b) (S ls (Card j) qs b) (OfChipKind (Card j) ps b) (OfChipKind (Card j) qs b)
+    reads-alike j ps qs b out (S ls (Card j) ps b) (S ls (Card j) qs b) (OfChipKind (Card j) ps b) (OfChipKind (Card j) qs b)
+        (LowestReaching ls ps b) (LowestReaching ls qs b)
         (λ y. in-kept j ps b y ls) (λ y. in-from j ps b y ls) (λ y k. (kind-kept j ps b y (k .0), k .1)) (λ y k. (kind-from j ps b y (k .0), k .1))
         (not-several ps few) a x,
-    reads-alike ls j qs ps b out (S ls (Card j) qs b) (S ls (Card j) ps b) (OfChipKind (Card j) qs b) (OfChipKind (Card j) ps b)
+    reads-alike j qs ps b out (S ls (Card j) qs b) (S ls (Card j) ps b) (OfChipKind (Card j) qs b) (OfChipKind (Card j) ps b)
+        (LowestReaching ls qs b) (LowestReaching ls ps b)
         (λ y. in-from j ps b y ls) (λ y. in-kept j ps b y ls) (λ y k. (kind-from j ps b y (k .0), k .1)) (λ y k. (kind-kept j ps b y (k .0), k .1))
         (not-several qs (keep-few rules j ps few)) a x,
   )

@@ -36,7 +36,7 @@ reads-give ns i m l b out (in-card j n) out′ w =
     let most = card-limit (marked-chips m) b out′ (few-length 2 (marked-chips m) (few-chips m l)) (m .card) (l .card) j (w .0 .0 .allowed) (w .3) in
     was-in-card (on-card (m .card) j (marked-chips m) b out′ (l .card) (w .3)) (subst (λ (k : ℕ). k ≤ 11) (sym (w .1)) most)
 reads-give ns i m l b out (refused n) out′ w = not-read (subst (λ (x : ℕ). In x ns) (sym (w .0)) i)
-reads-give ns i m l b out (refused-card n j) out′ w = was-several (w .0) (w .2 .0)
+reads-give ns i m l b out (refused-card n j) out′ w = was-several (w .0) (w .2 .0 .0)
 reads-give ns i m l b out done out′ w = absurd w
 reads-give ns i m l b out (counted u v x y z) out′ w = absurd w
 

@@ -6,3 +6,4 @@ pub mod Exists
 pub mod Limits
 pub mod Gives
 pub mod Before
+pub mod Named

@@ -1,4 +1,5 @@
--- Order 5: the rule as it was, beside the rule as it is. u counted every marked chip, those on a marked card too.
+-- Order 5: the rule as it was, beside the rule as it is. u counted every marked chip, those on a marked card too. The card with 11 is order 6's
+-- in both: order 6's own rule before it is in Named.antt.
 --
 --   u-before, AllowedBefore, OfChipKindBefore   the table of 01 before the order
 --   SBefore, ReadsBefore     the set S and what a reading said by that table
@@ -20,7 +21,7 @@ use Rattle.marks.specs.Marks.{CardInRange}
 use Rattle.marks.specs.declared.CardMark.{CardMark}
 use Rattle.marks.specs.declared.CardMark.the-variants.{None, Card}
 use Rattle.reading.specs.Allowed.{further, further-beside, ChipsUpTo, CardKind, BesideUpTo, CardChanged}
-use Rattle.reading.specs.Reading.{LawfulIn, S, ReadsBy, Reads}
+use Rattle.reading.specs.Reading.{LawfulIn, S, LowestReaching, ReadsBy, Reads}
 
 -- ---- the rule as it was
 -- "Let u be the count of chip marks."
@@ -39,7 +40,7 @@ abbrev pub SBefore : List ℕ → CardMark → List ℕ → List ℕ → List �
 SBefore labels c ps b x = LawfulIn labels (AllowedBefore c ps b) x
 
 abbrev pub ReadsBefore : List ℕ → CardMark → List ℕ → List ℕ → List ℕ → Answer → List ℕ → Type 0
-ReadsBefore labels c ps b out a out′ = ReadsBy (SBefore labels c ps b) (OfChipKindBefore c ps b) labels c ps b out a out′
+ReadsBefore labels c ps b out a out′ = ReadsBy (SBefore labels c ps b) (OfChipKindBefore c ps b) (LowestReaching labels ps b) c ps b out a out′
 
 -- ---- the two rules; where it is needed, for labels with 01's property, a card mark in range and at most two marked chips
 abbrev pub OnlyGrows : Type 0

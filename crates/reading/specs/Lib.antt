@@ -1,3 +1,4 @@
 pub mod Allowed
 pub mod Reading
 pub mod Before
+pub mod Named

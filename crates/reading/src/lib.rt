@@ -11,8 +11,8 @@ pub enum Kind {
 
 pub enum Reading {
     Corrected(Kind),
-    // 11: more than one lawful block differs from the one read as the marks allow. With the card's change, and
-    // one of marked chips, a lawful block is reached.
+    // 11: more than one lawful block differs from the one read as the marks allow. The card is the lowest of which a change, with one of
+    // marked chips, reaches a lawful block.
     Several(u8),
     // The number of the cause; 10: no lawful block does.
     Refused(u8),

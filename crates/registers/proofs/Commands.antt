@@ -142,7 +142,7 @@ Eleven (counted v w x y z) = Unit {0}
 Eleven (refused n) = Unit {0}
 Eleven (refused-card n j) = n ≡ 11
 
-pub reads-eleven : (m : Marks) (b out : List ℕ) (a : Answer) (x : List ℕ) → ReadsUnder m b out a x → Eleven a
+reads-eleven : (m : Marks) (b out : List ℕ) (a : Answer) (x : List ℕ) → ReadsUnder m b out a x → Eleven a
 reads-eleven m b out done x w = tt
 reads-eleven m b out clean x w = tt
 reads-eleven m b out (in-chips n) x w = tt
@@ -151,7 +151,7 @@ reads-eleven m b out (counted u v y z o) x w = tt
 reads-eleven m b out (refused n) x w = tt
 reads-eleven m b out (refused-card n j) x w = w .0
 
-pub by-eleven : (n : ℕ) (a : Answer) (U D : Type 0) → (D → Eleven a) → By n a U D → Eleven a
+by-eleven : (n : ℕ) (a : Answer) (U D : Type 0) → (D → Eleven a) → By n a U D → Eleven a
 by-eleven zero a U D f d = f d
 by-eleven (suc n) a U D f (e, u) = subst Eleven (sym e) tt
 

@@ -10,7 +10,7 @@
 --   CommandAgain         what a command does that places a mark which is there: order 3; AgainFigures: in figures
 --   StoreLeaves         what a write to another byte does
 --   ReadNumbers         when a read is refused, and what it finds
---   but-card-registers  the registers, but for the card with 11; WriteDecided: two outcomes of a write agree
+--   WriteDecided        two outcomes of a write agree
 --   TwelveBytes, EachByte, FreshBytes, BytesBack   the registers are twelve bytes; which stands where; those at the start; any twelve come back
 use Prim.Native.Nat.{ℕ, _+_, _-_, _*_, _/_, _%_, _≤_, _<_}
 use mathlib.Core.Path.{_≡_}
@@ -18,7 +18,7 @@ use mathlib.Core.Logic.{_≢_, _⊎_, _↔_}
 use mathlib.Core.Bool.{true, _&&_, _||_, not}
 use mathlib.Core.List.{List, [], _∷_}
 use lib.Dec.{eqb}
-use lib.ListN.{length, getD, set}
+use lib.ListN.{length, getD}
 use Rattle.base.specs.Base.{if, In}
 use Rattle.answer.specs.Answer.{Answer, done, clean, in-chips, in-card, counted, refused, refused-card, number}
 use Rattle.marks.specs.Marks.{bytes, of-bytes, fresh-marks, LawfulMarks}
@@ -149,14 +149,10 @@ pub record ReadNumbers (r : Registers) (a : ℕ) : Type 0 where
   pub byte : a ≤ 11 → read-value r a ≡ Byte (getD (register-bytes r) a 0)
 
 -- ---- what a write does is decided
--- the registers, but for "the card with 11", which is in byte 5 while byte 4 is 16 plus 11
-unfoldable pub but-card-registers : Registers → Registers
-but-card-registers r = record { front = set (r .front) 5 (if (eqb (register r 4) 27) 0 (register r 5)); marks = r .marks }
-
 abbrev pub WriteDecided : Type 0
 WriteDecided = (r : Registers) (a v : ℕ) (bank out w : List ℕ) (x x′ : Answer) (r′ r″ : Registers) (bank′ bank″ out′ out″ w′ w″ : List ℕ)
     → WriteDone r a v bank out w x r′ bank′ out′ w′ → WriteDone r a v bank out w x′ r″ bank″ out″ w″
-    → (x ≡ x′) × (but-card-registers r′ ≡ but-card-registers r″) × (bank′ ≡ bank″) × (out′ ≡ out″) × (w′ ≡ w″)
+    → (x ≡ x′) × (r′ ≡ r″) × (bank′ ≡ bank″) × (out′ ≡ out″) × (w′ ≡ w″)
 
 -- ---- twelve bytes
 abbrev pub TwelveBytes : Type 0

@@ -6,20 +6,21 @@
 --   chips-row       corrected in chips; under a card mark, card-row: on that card; beside-row: in chips, all off it
 --   only-card       no card but i reaches a lawful block
 --   search-row      corrected on the one card that does
---   several-row     several: zeros, by card i, and what card j reaches, which keeps a byte of b that is not 0
-use mathlib.Core.Logic.{_≢_, _⊎_, inl, inr}
+--   several-row     several: zeros, by card i, and what card j reaches, which keeps a byte of b that is not 0; the card named is k, and js fit
+use mathlib.Core.Logic.{_≢_, _⊎_, inl, inr, _↔_}
 use mathlib.Core.Path.{_≡_, refl, sym, ap, _∙_, subst}
 use mathlib.Core.Bool.{Bool, true, false, not}
-use mathlib.Core.List.{List}
+use mathlib.Core.List.{List, _∷_}
 use Prim.Native.Nat.{ℕ, _/_, _<_, _≤_}
 use native.Mathlib.Omega.{arith}
 use lib.Dec.{T, T-not, eqb, eqb→eq, ltb, ltb→lt}
 use lib.ListN.{length, take}
 use borrow.Author.Tests.{eq-eqb, eqb-false}
-use Rattle.base.specs.Base.{In, is-in, Few}
-use Rattle.base.proofs.Tests.{either, either-cases, every, every-at}
+use Rattle.base.specs.Base.{In, is-in, Rising, Few, those}
+use Rattle.base.proofs.Tests.{either, either-cases, every, every-at, is-true}
 use Rattle.base.proofs.Lists.{in-is-in, is-in-in}
 use Rattle.base.proofs.Tally.{clash}
+use Rattle.base.proofs.Those.{those-in, those-rising}
 use Rattle.answer.specs.Answer.{in-chips, in-card}
 use Rattle.field.specs.Field.{sum, _·_}
 use Rattle.code.specs.Block.{byte, position, Block, DifferOnly, Stored, changes, OneMember, TwoMembers, zeros}
@@ -30,12 +31,11 @@ use Rattle.code.proofs.Reach.{fits, closed, candidate-few, reached-few}
 use Rattle.code.proofs.Members.{zero-stored}
 use Rattle.marks.specs.declared.CardMark.the-variants.{None, Card}
 use Rattle.reading.specs.Allowed.{u, further, further-beside, ChipKind, BesideKind, CardChanged}
-use Rattle.reading.specs.Reading.{S, Reaches}
+use Rattle.reading.specs.Reading.{S, Reaches, LowestReaching}
 use Rattle.reading.proofs.Searches.{covered, covers}
-use Rattle.reading.proofs.Facts.{chip-one, card-one}
-use Rattle.table.specs.Table.{Told}
-use Rattle.table.specs.Table.Told.{corrected, none, several, several-every-card-fits}
-use Rattle.table.proofs.Settled.{Exactly, one-answer, two-members, every-card}
+use Rattle.reading.proofs.Facts.{chip-one, card-one, reaches, reached-by}
+use Rattle.table.specs.Table.Told.{corrected, several}
+use Rattle.table.proofs.Settled.{Exactly, one-answer, two-members}
 
 -- ---- tests
 -- P holds where the test t passes
@@ -84,19 +84,12 @@ lawful-by x l t u e f = subst (λ (ls : List ℕ). Stored ls (take 34 x) x) (sym
 abbrev pub fit : List ℕ → List ℕ → ℕ → Bool
 fit b ps j = fits figures j (keep j ps) b
 
--- card j does, or every card does
-abbrev pub several-test : List ℕ → List ℕ → Told → ℕ → Bool
-several-test b ps several j = fit b ps j
-several-test b ps several-every-card-fits j = every (fit b ps) 5
-several-test b ps none j = false
-several-test b ps (corrected a y) j = false
-
 module _ (b : List ℕ) (bb : Block b) (ps : List ℕ) (few : Few rules ps) where
   -- ---- one member, by the kind of its change
   pub chips-row : (fs : List ℕ) → length fs ≤ further (length ps) → T (only b zeros (λ p. either (is-in p ps) (is-in p fs)))
       → (p : ℕ) → eqb (byte zeros p) (byte b p) ≡ false → (n : ℕ) → T (eqb n (changes b zeros)) → Exactly None ps b (corrected (in-chips n) zeros)
   chips-row fs l t p ne n c =
-      one-answer None ps b (in-chips n) zeros refl (λ e. omega arith)
+      one-answer None ps b (in-chips n) zeros
       (λ out. (chip-one built-in built-in-set ps few b None tt zeros s k, (λ e. eqb-false _ _ ne (ap (λ (x : List ℕ). byte x p) e)), eqb→eq _ _ c, k))
     where
       k : ChipKind ps b zeros
@@ -120,14 +113,14 @@ module _ (b : List ℕ) (bb : Block b) (ps : List ℕ) (few : Few rules ps) wher
     pub card-row : (p : ℕ) → p < 45 → p / 9 ≡ j → eqb (byte b p) (byte y p) ≡ false → (n : ℕ) → T (eqb n (changes b y))
         → Exactly (Card j) ps b (corrected (in-card j n) y)
     card-row p hp e ne n c =
-        one-answer (Card j) ps b (in-card j n) y refl (λ e. omega arith)
+        one-answer (Card j) ps b (in-card j n) y
         (λ out. (one-beside, eqb→eq _ _ c, (λ k. k .1 (p, hp, e, eqb-false _ _ ne)), refl))
 
     -- no byte of card j is changed
     pub beside-row : T (every (λ p. either (not (eqb (p / 9) j)) (eqb (byte b p) (byte y p))) 45) → (p : ℕ) → eqb (byte y p) (byte b p) ≡ false
         → (n : ℕ) → T (eqb n (changes b y)) → Exactly (Card j) ps b (corrected (in-chips n) y)
     beside-row o p ne n c =
-        one-answer (Card j) ps b (in-chips n) y refl (λ e. omega arith)
+        one-answer (Card j) ps b (in-chips n) y
         (λ out. (one-beside, (λ e. eqb-false _ _ ne (ap (λ (x : List ℕ). byte x p) e)), eqb→eq _ _ c, (by-beside, kept)))
       where
         kept : CardChanged j b y → ⊥
@@ -167,7 +160,7 @@ module _ (b : List ℕ) (bb : Block b) (ps : List ℕ) (few : Few rules ps) wher
     pub search-row : T (every (λ j. either (eqb j i) (not (fit b ps j))) 5) → (ChipKind ps b zeros → ⊥) → (n : ℕ) → T (eqb n (changes b zeros))
         → Exactly None ps b (corrected (in-card i n) zeros)
     search-row t ch n c =
-        one-answer None ps b (in-card i n) zeros refl (λ e. omega arith)
+        one-answer None ps b (in-card i n) zeros
         (λ out. (
           (covers built-in ps b zeros i hi zeros-on, λ y s. is y (only-card i t y s .1) ∙ sym (is zeros zeros-on)),
           eqb→eq _ _ c,
@@ -198,13 +191,32 @@ module _ (b : List ℕ) (bb : Block b) (ps : List ℕ) (few : Few rules ps) wher
           kept (inr (inl e)) = absurd (np e)
           kept (inr (inr k)) = absurd (clash (is-in p ps) (in-is-in p ps k) ip)
 
-      reaches : (k : ℕ) → k < 5 → T (fit b ps k) → Reaches built-in ps b k
-      reaches k l t = let r = fits-reached k l t in (l, (closed built-in k (keep k ps) b, r .block, r .lawful, r .only))
+      -- the cards that fit are those that pass the test
+      fitting : (k : ℕ) → Reaches built-in ps b k ↔ In k (those 0 5 (fit b ps))
+      fitting k = (
+        λ w. let r = reached-by built-in ps b k w in passing .1 (omega arith, r .0, is-true (fit b ps k) (reached-fits k (r .0) (r .1 .0) (r .1 .1))),
+        λ m. let w = passing .0 m in
+            reaches built-in ps b k (w .1) (closed built-in k (keep k ps) b) (fits-reached k (w .1) (subst T (sym (w .2)) tt)),
+      )
+        where
+          passing : In k (those 0 5 (fit b ps)) ↔ ((0 ≤ k) × (k < 5) × (fit b ps k ≡ true))
+          passing = those-in 5 0 (fit b ps) k
 
-      pub several-row : (told : Told) → T (several-test b ps told j) → Exactly None ps b told
-      several-row several t = two-members None ps b (two-blocks t) j (reaches j hj t)
-      several-row several-every-card-fits t =
-          let f = every-at (fit b ps) 5 t in
-          every-card None ps b (two-blocks (f j hj)) (λ k l. reaches k l (f k l))
-      several-row none t = absurd t
-      several-row (corrected a y) t = absurd t
+      pub several-row : (n k : ℕ) (js : List ℕ) → T (eqb n k) → k ∷ js ≡ those 0 5 (fit b ps) → In j (k ∷ js) → Exactly None ps b (several n (k ∷ js))
+      several-row n k js e q m =
+          two-members None ps b (two-blocks (subst T (sym (those-in 5 0 (fit b ps) j .0 (subst (In j) q m) .2)) tt)) n
+          (subst (LowestReaching built-in ps b) (sym (eqb→eq n k e)) (fits k .1 (inl refl), below)) (k ∷ js) fits
+        where
+          fits : (i : ℕ) → Reaches built-in ps b i ↔ In i (k ∷ js)
+          fits = subst (λ (l : List ℕ). (i : ℕ) → Reaches built-in ps b i ↔ In i l) (sym q) fitting
+
+          -- they rise, so that the first is the lowest
+          rising : Rising (k ∷ js)
+          rising = subst Rising (sym q) (those-rising 5 0 (fit b ps))
+
+          below : (i : ℕ) → i < k → Reaches built-in ps b i → ⊥
+          below i l r = go (fits i .0 r)
+            where
+              go : In i (k ∷ js) → ⊥
+              go (inl z) = omega arith
+              go (inr z) = omega (arith, rising .0 i z)

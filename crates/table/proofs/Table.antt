@@ -12,7 +12,7 @@ use Prim.Native.Nat.{ℕ, _≤_}
 use native.Mathlib.Omega.{arith}
 use lib.Dec.{T, ltb}
 use lib.ListN.{length}
-use Rattle.base.specs.Base.{In, tally, Few}
+use Rattle.base.specs.Base.{In, tally, those, Few}
 use Rattle.base.proofs.Tests.{every}
 use Rattle.base.proofs.Few.{few-one}
 use Rattle.answer.specs.Answer.{clean}
@@ -43,7 +43,8 @@ unfolding Exactly
 holds {m} {b} e l t f =
     let lm = cause-lawful m e in
     let bb = block-by b l t in
-    record { marks = lm; block = bb; reading = f bb (few-chips m lm) }
+    let w = f bb (few-chips m lm) in
+    record { marks = lm; block = bb; reading = w .0; fitting = w .1 }
 
 -- bytes 0, 1 = 1, 1
 abbrev ones-set : List ℕ
@@ -70,12 +71,13 @@ p also q = (p, q)
 
 -- THE TABLE
 pub starred : StarredBlocks
-unfolding figures sum _⊕_ polynomial-product remainder product squared fits eliminate.fits keep changes tally marks-cause in-range two-equal
+unfolding figures sum _⊕_ polynomial-product remainder product squared fits eliminate.fits keep changes tally those marks-cause in-range two-equal
 starred =
     holds refl refl tt (λ bb few.
-    one-answer None [] zeros clean zeros refl (λ e. omega arith) (clean-reads built-in built-in-set [] few zeros None tt bb (zero-stored built-in .lawful)))
+    one-answer None [] zeros clean zeros (clean-reads built-in built-in-set [] few zeros None tt bb (zero-stored built-in .lawful)))
     also holds refl refl tt (λ bb few. chips-row _ bb [] few (20 ∷ []) (omega arith) tt 20 refl _ tt)
-    also holds refl refl tt (λ bb few. several-row _ bb [] few 0 (omega arith) tt 1 (omega arith) 0 (omega arith) (λ e. omega arith) refl refl _ tt)
+    also holds refl refl tt (λ bb few.
+    several-row _ bb [] few 0 (omega arith) tt 1 (omega arith) 0 (omega arith) (λ e. omega arith) refl refl _ _ _ tt refl (inr (inl refl)))
     also holds refl refl tt (λ bb few. card-row _ bb [] few 0 (omega arith) (zero-stored built-in) [] (omega arith) tt 0 (omega arith) refl refl _ tt)
     also holds refl refl tt (λ bb few.
     card-row _ bb [] few 1 (omega arith) (lawful-by (zeros-but six) refl tt tt refl refl) [] (omega arith) tt 9 (omega arith) refl refl _ tt)
@@ -83,7 +85,7 @@ starred =
     also holds refl refl tt (λ bb few. search-row _ bb [] few 0 (omega arith) tt tt two-chips _ tt)
     also holds refl refl tt (λ bb few. chips-row _ bb (0 ∷ []) few (9 ∷ []) (omega arith) tt 0 refl _ tt)
     also holds refl refl tt (λ bb few.
-    several-row _ bb (0 ∷ 9 ∷ []) few 2 (omega arith) tt 3 (omega arith) 20 (omega arith) (λ e. omega arith) refl refl _ tt)
+    several-row _ bb (0 ∷ 9 ∷ []) few 2 (omega arith) tt 3 (omega arith) 20 (omega arith) (λ e. omega arith) refl refl _ _ _ tt refl (inr (inl refl)))
     also holds refl refl tt (λ bb few. card-row _ bb [] few 0 (omega arith) (zero-stored built-in) (9 ∷ []) (omega arith) tt 0 (omega arith) refl refl _ tt)
     also tt
 

@@ -1,8 +1,9 @@
--- The starred blocks of document 01, "Blocks to set up", as one table.
+-- The starred blocks of document 01, "Blocks to set up", as one table. Document 02, orders 5 and 6.
 --
 --   zeros-but l      45 zeros with some bytes set: l lists each one's position and value
 --   Told             the column "Reading"
---   Is               the answer a, with x in the output, is one that the row tells; ps are the marked chips
+--   Is               the answer a, with x in the output, is what the row tells
+--   Fitting          the cards that fit are those that the row tells; ps are the marked chips
 --   Holds            the block b under the marks m reads as the row tells, and in no other way
 --   Row              marks, bytes set, reading
 --   starred-blocks   the ten rows, in 01's order; StarredBlocks: every one holds
@@ -10,8 +11,9 @@
 use mathlib.Core.Logic.{_↔_}
 use mathlib.Core.Path.{_≡_}
 use mathlib.Core.List.{List, [], _∷_}
-use Prim.Native.Nat.{ℕ, _<_}
+use Prim.Native.Nat.{ℕ}
 use lib.ListN.{set}
+use Rattle.base.specs.Base.{In}
 use Rattle.answer.specs.Answer.{Answer, clean, in-chips, in-card, refused, refused-card}
 use Rattle.code.specs.Block.{Block, zeros}
 use Rattle.code.specs.Labels.{built-in}
@@ -31,21 +33,26 @@ pub data Told : Type 0 where
   -- the answer, and the 45 corrected bytes
   corrected : Answer → List ℕ → Told
   none : Told
-  several : Told
-  several-every-card-fits : Told
+  -- the card that is named, and the cards that fit
+  several : (card : ℕ) (fitting : List ℕ) → Told
 
--- the card with "several" is any whose card-kind change reaches a lawful block; where every card fits, any of the five
-abbrev pub Is : Told → List ℕ → List ℕ → List ℕ → Answer → List ℕ → Type 0
-Is (corrected a′ y) ps b out a x = (a ≡ a′) × (x ≡ y)
-Is none ps b out a x = (a ≡ refused 10) × (x ≡ out)
-Is several ps b out a x = (j : ℕ) × (a ≡ refused-card 11 j) × Reaches built-in ps b j × (x ≡ out)
-Is several-every-card-fits ps b out a x = (j : ℕ) × (a ≡ refused-card 11 j) × (j < 5) × (x ≡ out)
+abbrev pub Is : Told → List ℕ → Answer → List ℕ → Type 0
+Is (corrected a′ y) out a x = (a ≡ a′) × (x ≡ y)
+Is none out a x = (a ≡ refused 10) × (x ≡ out)
+Is (several j js) out a x = (a ≡ refused-card 11 j) × (x ≡ out)
+
+-- a card fits whose card-kind change reaches a lawful block
+abbrev pub Fitting : Told → List ℕ → List ℕ → Type 0
+Fitting (corrected a′ y) ps b = Unit {0}
+Fitting none ps b = Unit {0}
+Fitting (several j js) ps b = (i : ℕ) → Reaches built-in ps b i ↔ In i js
 
 -- there is nothing to refuse, and what a reading may say, out being lent for output, is what the row tells, no less and no more
 pub record Holds (m : Marks) (b : List ℕ) (told : Told) : Type 0 where
   pub marks : LawfulMarks m
   pub block : Block b
-  pub reading : (out : List ℕ) (a : Answer) (x : List ℕ) → ReadsUnder m b out a x ↔ Is told (marked-chips m) b out a x
+  pub reading : (out : List ℕ) (a : Answer) (x : List ℕ) → ReadsUnder m b out a x ↔ Is told out a x
+  pub fitting : Fitting told (marked-chips m) b
 
 -- ---- the table
 pub data Row : Type 0 where
@@ -78,13 +85,13 @@ abbrev pub starred-blocks : List Row
 starred-blocks =
     row no-mark [] (corrected clean zeros)
     ∷ row no-mark ((20, 7) ∷ []) (corrected (in-chips 1) zeros)
-    ∷ row no-mark three several-every-card-fits
+    ∷ row no-mark three (several 0 (0 ∷ 1 ∷ 2 ∷ 3 ∷ 4 ∷ []))
     ∷ row (card 0) three (corrected (in-card 0 3) zeros)
     ∷ row (card 1) three (corrected (in-card 1 3) (zeros-but six))
     ∷ row no-mark two none
     ∷ row no-mark ((0, 1) ∷ (1, 1) ∷ []) (corrected (in-card 0 2) zeros)
     ∷ row (chip 0) two (corrected (in-chips 2) zeros)
-    ∷ row (chips 0 9) ((20, 7) ∷ []) several
+    ∷ row (chips 0 9) ((20, 7) ∷ []) (several 2 (2 ∷ 3 ∷ 4 ∷ []))
     ∷ row (card 0) two (corrected (in-card 0 2) zeros)
     ∷ []
 

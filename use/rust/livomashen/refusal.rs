@@ -26,7 +26,8 @@ pub enum Refusal {
     MarkAbsent,
     /// No record fits the block.
     None,
-    /// Two records or more fit; a change in `card` and in marked chips reaches one of them.
+    /// Two records or more fit; `card` is the lowest card of which a change, with one in marked
+    /// chips, reaches one of them.
     Several { card: u8 },
     /// The register's address is above 11.
     RegisterAddress,
@@ -100,7 +101,10 @@ impl fmt::Display for Refusal {
             Refusal::MarkAbsent => "the mark to lift is not there",
             Refusal::None => "no record fits the block",
             Refusal::Several { card } => {
-                return write!(f, "several records fit the block, by card {card} for one");
+                return write!(
+                    f,
+                    "several records fit the block; card {card} is the lowest that reaches one"
+                );
             }
             Refusal::RegisterAddress => "there is no register of this address",
             Refusal::RegisterReadOnly => "this register is not written",

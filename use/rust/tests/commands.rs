@@ -3,23 +3,7 @@
 use crate::damage::{any_marks, damage, from_environment};
 use crate::livomashen::{self, at, command, Corrected, Refusal, Registers, Said, Window};
 use crate::livomashen::{BLOCK, RECORD, REGISTERS};
-use crate::plain;
 use crate::random::Random;
-
-/// Whether a change in this card and in marked chips reaches a lawful block:
-/// what the answer 11 says of its card.
-fn reaches(block: &[u8], marks: &[u8], card: u8) -> bool {
-    let mut out = [0; BLOCK];
-    let under = [card, marks[1], marks[2], marks[3]];
-    let corrected = !matches!(
-        plain::read(block, &under, &mut out),
-        plain::Answer::None | plain::Answer::Several { .. } | plain::Answer::Refused(_)
-    );
-    corrected
-        && (0..BLOCK).all(|p| {
-            out[p] == block[p] || p / 9 == card as usize || marks[2..].contains(&(p as u8))
-        })
-}
 
 /// The registers after a command, by the call that it stands for.
 fn by_call(
@@ -94,7 +78,7 @@ fn random_commands_do_what_their_calls_do() {
         let (mut out, before) = ([0xA5; BLOCK], any_registers(&mut rng, &marks));
         let (mut other_bank, mut other_out) = (bank, out);
         let asked = 1 + rng.below(6) as u8;
-        let mut wanted = by_call(
+        let wanted = by_call(
             &before,
             asked,
             &mut other_bank,
@@ -104,12 +88,6 @@ fn random_commands_do_what_their_calls_do() {
         let mut registers = Registers::from_bytes(before);
         let said = registers.write(at::COMMAND, asked, &mut bank, &mut out, &mut window);
         assert_eq!(said, Ok(()), "seed {seed}, case {case}");
-        // With 11 the command may name another card than the call, if it fits.
-        if let Some(Err(Refusal::Several { card })) = registers.last_answer() {
-            let block = &bank[BLOCK * before[1] as usize..][..BLOCK];
-            assert!(reaches(block, &marks, card), "seed {seed}, case {case}");
-            wanted[5] = 16 * card;
-        }
         assert_eq!(*registers.bytes(), wanted, "seed {seed}, case {case}");
         assert_eq!(
             (bank, out),

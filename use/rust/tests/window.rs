@@ -6,7 +6,7 @@ use crate::livomashen::{self, at, command, Refusal, Registers, Window};
 use crate::livomashen::{BLOCK, FRESH, RECORD, REGISTERS, WINDOW};
 use crate::random::Random;
 use crate::worked::zeros_with;
-use crate::{number, plain};
+use crate::{number, plain, told};
 
 /// A window that holds these positions and no more.
 fn holding(positions: &[u8]) -> Window {
@@ -103,7 +103,7 @@ fn correct(
     k: usize,
     marks: &[u8; 4],
     window: &mut Window,
-) -> Result<(), u8> {
+) -> Result<(), (u8, u8)> {
     let mut out = [0; BLOCK];
     let said = match way {
         Way::Get => livomashen::get(bank, k, marks, &mut out, window).map(|_| ()),
@@ -118,21 +118,21 @@ fn correct(
             registers.last_answer().expect("an answer").map(|_| ())
         }
     };
-    number(said)
+    told(said)
 }
 
 #[test]
 fn what_each_way_adds() {
     let (three, card_2) = ([(0, 8), (1, 6), (2, 1)], [2, 0, 255, 255]);
-    type Row<'a> = ([u8; 4], &'a [(usize, u8)], Result<&'a [u8], u8>);
+    type Row<'a> = ([u8; 4], &'a [(usize, u8)], Result<&'a [u8], (u8, u8)>);
     let rows: [Row; 14] = [
         (FRESH, &[], Ok(&[])),
         (FRESH, &[(20, 7)], Ok(&[20])),
         (FRESH, &[(0, 1), (1, 1)], Ok(&[0, 1])),
-        (FRESH, &three, Err(11)),
-        (FRESH, &[(0, 1), (9, 1)], Err(10)),
-        ([255, 2, 0, 0], &[(0, 1)], Err(7)),
-        ([5, 0, 255, 255], &[(0, 1)], Err(6)),
+        (FRESH, &three, Err((11, 0))),
+        (FRESH, &[(0, 1), (9, 1)], Err((10, 0))),
+        ([255, 2, 0, 0], &[(0, 1)], Err((7, 0))),
+        ([5, 0, 255, 255], &[(0, 1)], Err((6, 0))),
         ([1, 0, 255, 255], &three, Ok(&[9, 10, 11])),
         // Chips marked the high one first, and one further chip.
         ([255, 2, 30, 3], &[(3, 1), (30, 1)], Ok(&[3, 30])),

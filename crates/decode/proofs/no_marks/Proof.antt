@@ -1,6 +1,6 @@
 -- Five cards alone. Invariant: the cards below j have been looked at, and at most one of them fits; it takes two rows or more.
 use mathlib.Core.Path.{_≡_, refl, ap, _∙_, subst}
-use mathlib.Core.Logic.{_⊎_, ⊎-elim}
+use mathlib.Core.Logic.{⊎-elim}
 use mathlib.Core.Bool.{true}
 use mathlib.Core.List.{List, []}
 use Prim.Native.Nat.{ℕ, _-_, _≤_, _<_}
@@ -127,8 +127,8 @@ returns-3 : tie.Need-returns-3 Inv-five μ-five
 returns-3 c =
     let at = c .before .before .before in
     let s = at .before .before .before .before .before in
-    refusal built-in None [] (s .args .s) (c .refused2 .result) (Several (at .before .five .card)) (c .refused2 .ensures)
-    (λ b k. several-reads built-in built-in-set [] tt b (at .before .five .card) (rw (c .before .if5 .taken) at (left at .1 .1 b k)))
+    refusal built-in None [] (s .args .s) (c .refused2 .result) (Several _) (c .refused2 .ensures)
+    (λ b k. several-reads built-in built-in-set [] tt b (at .before .five .card) (rw (c .before .if5 .taken) at (left at .1 .1 b k)) _ (omega arith))
 
 returns-4 : tie.Need-returns-4 Inv-five μ-five
 returns-4 c =

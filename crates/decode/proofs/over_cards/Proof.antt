@@ -1,7 +1,7 @@
 -- Five cards, each with the marked chips. Invariant: the cards below j have been looked at, and at most one of them reaches a block, which
 -- is not of the chip kind; its reduced sums are held.
 use mathlib.Core.Path.{_≡_, sym, ap, subst}
-use mathlib.Core.Logic.{_⊎_, ⊎-elim}
+use mathlib.Core.Logic.{⊎-elim}
 use mathlib.Core.Bool.{true, false}
 use mathlib.Core.List.{List}
 use Prim.Native.Nat.{ℕ, _-_, _≤_, _<_}
@@ -206,9 +206,9 @@ returns-3 c =
     let at = c .before .before .before in
     let s = at .before .before .before .before in
     let m = s .args .m in
-    refusal (s .args .labels .now) None (marked-chips m) (s .args .s) (c .refused2 .result) (Several (at .before .cards .card)) (c .refused2 .ensures)
+    refusal (s .args .labels .now) None (marked-chips m) (s .args .s) (c .refused2 .result) (Several _) (c .refused2 .ensures)
     (λ b k. several-reads (s .args .labels .now) (s .pre .0) (marked-chips m) (few-chips m (s .pre .2)) b (at .before .cards .card)
-    (rw (c .before .if5 .taken) at (left at .1 .looked b k)))
+    (rw (c .before .if5 .taken) at (left at .1 .looked b k)) _ (omega arith))
 
 -- neither none nor two is one
 one : (c : tie.Else5 Inv-cards μ-cards) → c .before .before .cards-test .found ≡ 1

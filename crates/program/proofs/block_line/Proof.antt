@@ -11,12 +11,12 @@ returns c =
 returns-2 : tie.Need-returns-2
 returns-2 c =
     let line = c .before .before in
-    rw (line .before .before .enum-told .given .1) (line .several-line .ensures)
+    rw (line .before .before .before .r2 .given .1) (line .several-line .ensures)
 
 returns-3 : tie.Need-returns-3
 returns-3 c =
     let line = c .before .before in
-    rw (line .before .before .enum-told2 .given .1) (line .none-line .ensures)
+    rw (line .before .before .enum-told .given .1) (line .none-line .ensures)
 
 pub block-line-spec : {M : Type 1} → statement M
 block-line-spec =
