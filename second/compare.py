@@ -1,8 +1,8 @@
 """Compares the bank program with second/bank.py, byte for byte.
 
-First document 01's worked blocks and limits, then an input that arrives in
-pieces, then seeded banks of 1 to 1,024 blocks: each kind of damage under each
-shape of marks, now and then with a wrong length.
+First document 01's worked blocks and limits and order 7's roundings, then an
+input that arrives in pieces, then seeded banks of 1 to 1,024 blocks: each kind
+of damage under each shape of marks, now and then with a wrong length.
 
 A difference is printed with the input and both outputs, and the exit is 1.
 The input is saved too, and a seeded bank has a number to run it alone:
@@ -15,6 +15,8 @@ import random
 import subprocess
 import sys
 import time
+from collections import Counter
+from itertools import chain
 from pathlib import Path
 
 sys.dont_write_bytecode = True
@@ -38,7 +40,7 @@ class Difference(Exception):
     """What differs, the input, and both outputs."""
 
 
-# ------------------------------------------------------------- 01's examples
+# ------------------------------------------- examples of documents 01 and 02
 
 def with_bytes(*pairs):
     block = bytearray(BLOCK)
@@ -53,7 +55,9 @@ def marks(card=255, *chips):
 
 THREE = with_bytes((0, 8), (1, 6), (2, 1))
 IN_ROW = with_bytes((0, 1), (9, 1))
+IN_CARD = with_bytes((0, 1), (1, 1))
 SEVEN = with_bytes((20, 7))
+NAMES = ("clean", "chips", "card", "none", "several")      # of the five totals
 
 # 01, "Blocks to set up", row by row: marks, block, what its line says.  Order 5
 # changed the row of card 0 and chip 1; the three after it are by order 5 too.  The
@@ -65,7 +69,7 @@ WORKED = (
     (marks(0), THREE, "card 0 3"),
     (marks(1), THREE, "card 1 3"),
     (marks(), IN_ROW, "none"),
-    (marks(), with_bytes((0, 1), (1, 1)), "card 0 2"),
+    (marks(), IN_CARD, "card 0 2"),
     (marks(255, 0), IN_ROW, "chips 2"),
     (marks(255, 0, 9), SEVEN, "several 2"),
     (marks(0), IN_ROW, "card 0 2"),
@@ -85,24 +89,60 @@ def worked_text(says):
     """The whole output for a bank of the one block."""
     if says.startswith("refused"):
         return says + "\n"
-    names = ("clean", "chips", "card", "none", "several")
     word = says.split()[0]
-    totals = " ".join(f"{name} {int(name == word)}" for name in names)
+    totals = " ".join(f"{name} {int(name == word)}" for name in NAMES)
     line = "" if says == "clean" else f"0 {says}\n"
     sound = 0 if word in ("none", "several") else 1000
     return f"blocks 1\n{line}{totals}\nsound {sound}\n"
 
 
 def examples():
-    """(name, input, output by 01): worked blocks, 01's own input, rounding."""
+    """(name, input, output by 01): worked blocks, 01's own input."""
     for at, (record, block, says) in enumerate(WORKED):
         yield f"worked block {at}", record + block, worked_text(says)
     yield "01's input", FRESH + bytes(BLOCK) + THREE, (
         "blocks 2\n1 several 0\n"
         "clean 1 chips 0 card 0 none 0 several 1\nsound 500\n")
-    yield "one sound block of 16", FRESH + bytes(BLOCK) + 15 * IN_ROW, (
-        "blocks 16\n" + "".join(f"{k} none\n" for k in range(1, 16))
-        + "clean 1 chips 0 card 0 none 15 several 0\nsound 63\n")
+
+
+# Order 7: the figure where 0, 1, .. 16 blocks of 16 are sound.
+OF_16 = (0, 62, 125, 188, 250, 312, 375, 438, 500, 562, 625, 688, 750, 812, 875,
+         938, 1000)
+
+
+def sound_of(sound, blocks, figure):
+    """(input, output) of a bank of which the first blocks are sound, in turn clean,
+    chips and card, and the others in turn none and several."""
+    given = [(("clean", bytes(BLOCK)), ("chips 1", SEVEN), ("card 0 2", IN_CARD))[k % 3]
+             for k in range(sound)]
+    given += [(("none", IN_ROW), ("several 0", THREE))[k % 2]
+              for k in range(blocks - sound)]
+    totals = Counter(says.split()[0] for says, _ in given)
+    return FRESH + b"".join(block for _, block in given), (
+        f"blocks {blocks}\n"
+        + "".join(f"{k} {says}\n" for k, (says, _) in enumerate(given)
+                  if says != "clean")
+        + " ".join(f"{name} {totals[name]}" for name in NAMES)
+        + f"\nsound {figure}\n")
+
+
+def halves():
+    """(sound, blocks, figure): every exact half that a bank can come to."""
+    for blocks in range(1, MOST_BLOCKS + 1):
+        for sound in range(blocks + 1):
+            twice, rest = divmod(2000 * sound, blocks)
+            if rest == 0 and twice % 2 == 1:
+                below = twice // 2
+                yield sound, blocks, below if below % 2 == 0 else below + 1
+
+
+def roundings():
+    """(name, input, output by order 7): every share of 16 blocks, some that are
+    no half, and every exact half that a bank can come to."""
+    others = ((1, 3, 333), (2, 3, 667), (1, 1023, 1), (1, 1024, 1), (1023, 1024, 999))
+    for sound, blocks, figure in chain(((k, 16, OF_16[k]) for k in range(17)), others,
+                                       halves()):
+        yield f"{sound} sound of {blocks}", *sound_of(sound, blocks, figure)
 
 
 def limits():
@@ -233,11 +273,11 @@ def shown(output):
     return output.decode("ascii", "backslashreplace") or "(nothing)\n"
 
 
-def compare(program, name, parts, by_01=None):
+def compare(program, name, parts, stated=None):
     data = b"".join(parts)
     said, wanted = run(program, parts), second.text(data).encode()
-    if by_01 is not None and wanted != by_01.encode():
-        raise Difference(name, data, "document 01", by_01.encode(), wanted)
+    if stated is not None and wanted != stated.encode():
+        raise Difference(name, data, "documents 01 and 02", stated.encode(), wanted)
     if said != wanted:
         raise Difference(name, data, "program", said, wanted)
 
@@ -256,13 +296,13 @@ def report(difference, seed):
 
 
 def all_inputs(wanted):
-    """(name, pieces, output by 01 or None) for every input to compare."""
+    """(name, pieces, output by the documents or None) for every input to compare."""
     if wanted.only is not None:
         name, data = seeded(wanted.seed, wanted.only)
         yield f"bank {wanted.only}: {name}", [data], None
         return
-    for name, data, by_01 in (*examples(), *limits()):
-        yield name, [data], by_01
+    for name, data, stated in chain(examples(), limits(), roundings()):
+        yield name, [data], stated
     for name, parts in pieces():
         yield name, parts, None
     for at in range(wanted.banks):
@@ -296,8 +336,8 @@ def main():
         return 1
     done = 0
     try:
-        for name, parts, by_01 in all_inputs(wanted):
-            compare(program, name, parts, by_01)
+        for name, parts, stated in all_inputs(wanted):
+            compare(program, name, parts, stated)
             done += 1
     except Difference as difference:
         report(difference, wanted.seed)

@@ -570,10 +570,11 @@ def report(bank, marks):
 
 
 def sound_per_thousand(totals):
-    """The first three totals per thousand of all, nearest, halves up.
+    """The first three totals per thousand of all: the nearest whole number, and at
+    an exact half the even one (order 7).
 
     By exact fractions, so that it shares no formula with the library.
     """
     share = 1000 * Fraction(sum(totals[:3]), sum(totals))
-    whole = math.floor(share)
-    return whole + 1 if share - whole >= Fraction(1, 2) else whole
+    below = math.floor(share)
+    return min(below, below + 1, key=lambda q: (abs(share - q), q % 2))

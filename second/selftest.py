@@ -1,7 +1,8 @@
 """Checks of the second implementation against document 01 and the orders.
 
-Those of reference.py and bank.py are here, those of the registers, the window
-and the lists in selftest_registers.py, selftest_window.py and selftest_lists.py.
+Those of reference.py and bank.py are here; those of the registers, the window,
+the rounding and the lists in selftest_registers.py, selftest_window.py,
+selftest_rounding.py and selftest_lists.py.
 
 Prints 'N checks, 0 failed', or a message for each failure and exit 1.
 """
@@ -19,6 +20,7 @@ import damage
 import reference as ref
 import selftest_lists
 import selftest_registers
+import selftest_rounding
 import selftest_window
 from checking import check, counts, marks, zeros_with
 from reference import (Answer, BLOCK, CARDS, CHIPS, CLEAN, FRESH, IN_CARD,
@@ -532,7 +534,7 @@ PROGRAM = (
      "clean 1024 chips 0 card 0 none 0 several 0\nsound 1000\n"),
     (FRESH + bytes(45) + 15 * BAD, "blocks 16\n"
      + "".join(f"{k} none\n" for k in range(1, 16))
-     + "clean 1 chips 0 card 0 none 15 several 0\nsound 63\n"),
+     + "clean 1 chips 0 card 0 none 15 several 0\nsound 62\n"),
 )
 
 
@@ -553,16 +555,6 @@ def check_program(rng):
                   (0, tuple(int(word) for word in said[-2].split()[1::2])))
             check("a line for each block not clean", len(said) - 3,
                   sum(totals) - totals[CLEAN])
-
-
-def check_rounding():
-    for sound, blocks, wanted in ((1, 16, 63), (0, 1, 0), (1, 1, 1000),
-                                  (1, 2, 500), (1, 3, 333), (2, 3, 667),
-                                  (3, 16, 188), (15, 16, 938), (1, 1024, 1),
-                                  (1023, 1024, 999), (1, 80, 13)):
-        totals = (sound, 0, 0, blocks - sound, 0)
-        check(f"{sound} sound of {blocks}", ref.sound_per_thousand(totals),
-              wanted)
 
 
 def check_damage(rng):
@@ -606,7 +598,7 @@ def main():
     selftest_window.check_window()
     selftest_lists.check_lists(rng)
     check_program(rng)
-    check_rounding()
+    selftest_rounding.check_rounding()
     print(f"{counts['done']} checks, {counts['failed']} failed")
     return 1 if counts["failed"] else 0
 

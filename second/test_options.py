@@ -7,7 +7,10 @@ import sys
 import tempfile
 import unittest
 from contextlib import redirect_stdout
+from fractions import Fraction
 from io import StringIO
+from itertools import islice
+from math import ceil, floor
 from pathlib import Path
 from types import SimpleNamespace
 from unittest import mock
@@ -16,6 +19,7 @@ sys.dont_write_bytecode = True
 HERE = Path(__file__).resolve().parent
 sys.path.insert(0, str(HERE))
 
+import bank             # noqa: E402
 import compare          # noqa: E402
 import damage           # noqa: E402
 import figures          # noqa: E402
@@ -118,6 +122,43 @@ class Compare(unittest.TestCase):
         none, five, other = inputs(0, 1), inputs(5, 1), inputs(5, 2)
         self.assertEqual((len(five) - len(none), five[:len(none)]), (5, none))
         self.assertNotEqual(five[len(none):], other[len(none):])
+
+    def test_other_roundings_are_found(self):
+        """The texts of order 7's first banks tell each other figure apart."""
+        def nearest(order):
+            """To the nearest; of two as near, the first by this order."""
+            def figure(totals):
+                share = 1000 * Fraction(sum(totals[:3]), sum(totals))
+                return min(floor(share), ceil(share),
+                           key=lambda q: (abs(share - q), order(q)))
+            return figure
+
+        even = nearest(lambda q: q % 2)
+        others = {
+            "halves up": nearest(lambda q: -q),
+            "halves down": nearest(lambda q: q),
+            "halves to the odd": nearest(lambda q: (q + 1) % 2),
+            "always down": lambda totals: 1000 * sum(totals[:3]) // sum(totals),
+            "always up": lambda totals: -(-1000 * sum(totals[:3]) // sum(totals)),
+            "not sound": lambda totals: 1000 - even(totals),
+            "clean alone": lambda totals: even((totals[0], 0, 0, sum(totals[1:]))),
+            "per hundred": lambda totals: even(totals) // 10,
+        }
+        banks = list(islice(compare.roundings(), 60))
+        for name, data, text in banks:
+            self.assertEqual(bank.text(data), text, name)
+        for other, figure in others.items():
+            with mock.patch.object(ref, "sound_per_thousand", figure):
+                self.assertTrue(any(bank.text(data) != text for _, data, text in banks),
+                                other)
+
+    def test_every_exact_half(self):
+        halves = list(compare.halves())
+        self.assertEqual((len(halves), len(set(halves))), (1216, 1216))
+        for sound, blocks, figure in halves:
+            share = 1000 * Fraction(sound, blocks)
+            self.assertEqual((abs(share - figure), figure % 2), (Fraction(1, 2), 0))
+        self.assertEqual(len(list(compare.roundings())), 17 + 5 + 1216)
 
     def test_sizes_of_banks(self):
         sizes = {(len(compare.seeded(1, at)[1]) - 4) // ref.BLOCK

@@ -56,6 +56,14 @@ class Words(InFolder):
                      "  card 2 chip 2 (position 20): in 1 block"):
             self.assertIn(line + "\n", said)
 
+    def test_a_half_goes_to_the_even_number(self):
+        for sound, share in ((1, 62), (3, 188)):
+            bank = sound * CARD + (16 - sound) * NONE
+            self.assertIn(f"of 16: {share} per thousand give a record\n",
+                          self.inspect(bank).out)
+            got = json.loads(self.inspect(bank, "--json").out)
+            self.assertEqual(got["sound_per_thousand"], share)
+
     def test_a_whole_card_is_said_shortly(self):
         bank = block(*[(p, p) for p in range(27, 36)])
         self.assertIn("card 3, 9 bytes: card 3 all chips (27 to 35)\n",

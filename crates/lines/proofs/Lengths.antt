@@ -2,13 +2,12 @@
 --
 --   Small a          an answer whose card has one digit, and whose number of bytes at most two
 --   count-length, block-length, totals-length, sound-length, refused-length   the lines
-use Prim.Native.Nat.{ℕ, _+_, _≤_, _<_}
+use Prim.Native.Nat.{ℕ, _≤_, _<_}
 use native.Mathlib.Omega.{arith}
 use lib.ListN.{length, length-append}
 use Rattle.answer.specs.Answer.{Answer, done, clean, in-chips, in-card, counted, refused, refused-card}
-use Rattle.lines.specs.Lines.{count-line, block-line, totals-line, per-thousand, sound-line, refused-line}
+use Rattle.lines.specs.Lines.{count-line, block-line, totals-line, sound-line, refused-line}
 use Rattle.lines.proofs.Decimal.{short}
-use Rattle.lines.proofs.PerThousand.{thousand}
 
 abbrev pub Small : Answer → Type 0
 Small clean = Unit {0}
@@ -34,10 +33,8 @@ block-length k (counted v w x y z) h s = omega arith
 pub totals-length : (v w x y z : ℕ) → v < 10000 → w < 10000 → x < 10000 → y < 10000 → z < 10000 → length (totals-line v w x y z) ≤ 55
 totals-length v w x y z a b c d e = simp length-append (omega (arith, short 3 v a, short 3 w b, short 3 x c, short 3 y d, short 3 z e))
 
-pub sound-length : (v w x y z : ℕ) → length (sound-line v w x y z) ≤ 11
-sound-length v w x y z =
-    let t = thousand (v + w + x) (v + w + x + y + z) (omega arith) in
-    simp length-append (omega (arith, short 3 (per-thousand (v + w + x) (v + w + x + y + z)) (omega arith)))
+pub sound-length : (q : ℕ) → q < 10000 → length (sound-line q) ≤ 11
+sound-length q h = simp length-append (omega (arith, short 3 q h))
 
 pub refused-length : (n : ℕ) → n < 100 → length (refused-line n) ≤ 11
 refused-length n h = simp length-append (omega (arith, short 1 n h))

@@ -1,6 +1,6 @@
 pub mod Decimal
 pub mod Pieces
-pub mod PerThousand
 pub mod Samples
 pub mod Lengths
 pub mod Tied
+pub mod Decided

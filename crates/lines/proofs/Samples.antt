@@ -3,12 +3,13 @@
 --   count       the first line
 --   refusal     the line of a refusal
 --   blocks      the lines of blocks, one of each kind; a clean block has none
---   totals      the last two lines, with five totals that differ
---   roundings   to the nearest, halves up
+--   totals      the last two lines, with five totals that differ; figure: their number of the last line
 use mathlib.Core.Path.{_≡_, refl}
-use mathlib.Core.List.{[], _∷_, _++_}
+use mathlib.Core.List.{_++_}
+use native.Mathlib.Omega.{arith}
+use Rattle.rounding.proofs.Rounding.{within}
 use Rattle.answer.specs.Answer.{clean, in-chips, in-card, refused, refused-card}
-use Rattle.lines.specs.Lines.{ascii, digits-up-to, decimal, count-line, block-line, totals-line, per-thousand, sound-line, refused-line}
+use Rattle.lines.specs.Lines.{ascii, digits-up-to, decimal, count-line, block-line, totals-line, SoundFigure, sound-line, refused-line}
 
 count : count-line 1024 ≡ ascii "blocks 1024\n"
 unfolding decimal digits-up-to
@@ -24,12 +25,10 @@ blocks : block-line 0 clean
 unfolding decimal digits-up-to
 blocks = refl
 
-totals : totals-line 1 2 3 4 5 ++ sound-line 1 2 3 4 5 ≡ ascii "clean 1 chips 2 card 3 none 4 several 5\nsound 400\n"
-unfolding decimal digits-up-to per-thousand
+totals : totals-line 1 2 3 4 5 ++ sound-line 400 ≡ ascii "clean 1 chips 2 card 3 none 4 several 5\nsound 400\n"
+unfolding decimal digits-up-to
 totals = refl
 
--- "One sound block of 16 gives 63"
-roundings : per-thousand 1 16 ∷ per-thousand 500 1000 ∷ per-thousand 0 3 ∷ per-thousand 1 3 ∷ per-thousand 2 3 ∷ per-thousand 3 3 ∷ []
-    ≡ 63 ∷ 500 ∷ 0 ∷ 333 ∷ 667 ∷ 1000 ∷ []
-unfolding per-thousand
-roundings = refl
+-- 6 of 15
+figure : SoundFigure 1 2 3 4 5 400
+figure = within 6000 15 400 (omega arith) (omega arith) (λ e. refl)

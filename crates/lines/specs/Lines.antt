@@ -1,4 +1,4 @@
--- The lines of text that the bank program prints, as ASCII codes. Document 01, "The bank program"; document 02, order 6.
+-- The lines of text that the bank program prints, as ASCII codes. Document 01, "The bank program"; document 02, orders 6 and 7.
 --
 --   ascii "word"        the codes of a text's characters
 --   decimal n           the decimal digits of n, with no zero in front; "0" for 0
@@ -6,16 +6,17 @@
 --   count-line n        "blocks N"
 --   block-line k a      what is printed of block k, which reads as a
 --   totals-line         "clean A chips B card C none D several E"
---   per-thousand s n    s per thousand of n, rounded to the nearest, halves up
---   sound-line          "sound N"
+--   SoundFigure .. q    q is the figure of the sound line, by the five totals
+--   sound-line q        "sound Q"
 --   refused-line n      "refused N"
-use Prim.Native.Nat.{ℕ, zero, suc, _+_, _*_, _/_, _%_}
+use Prim.Native.Nat.{ℕ, zero, suc, _+_, _/_, _%_}
 use Prim.Native.Char.{code}
 use Prim.Native.String.{String}
 use Prim.Native.String.{[] as end, _∷_ as _then_}
 use mathlib.Core.List.{List, [], _∷_, _++_}
-use lib.Dec.{eqb, ltb}
+use lib.Dec.{ltb}
 use Rattle.base.specs.Base.{if}
+use Rattle.rounding.specs.PerThousand.{PerThousand}
 use Rattle.answer.specs.Answer.{Answer, done, clean, in-chips, in-card, counted, refused, refused-card}
 
 -- ---- words
@@ -72,13 +73,12 @@ totals-line v w x y z =
     ∷ decimal z
     ∷ [])
 
--- "per thousand of all, rounded to the nearest, halves up"; 0 of no blocks, which no bank has
-unfoldable pub per-thousand : ℕ → ℕ → ℕ
-per-thousand s n = if (eqb n 0) 0 ((2000 * s + n) / (2 * n))
+-- "and the sound blocks (the first three totals) per thousand of all", rounded as order 7 says
+abbrev pub SoundFigure : (clean chips card none several q : ℕ) → Type 0
+SoundFigure v w x y z q = PerThousand (v + w + x) (v + w + x + y + z) q
 
--- "the sound blocks (the first three totals) per thousand of all"
-abbrev pub sound-line : (clean chips card none several : ℕ) → List ℕ
-sound-line v w x y z = line (ascii "sound" ∷ decimal (per-thousand (v + w + x) (v + w + x + y + z)) ∷ [])
+abbrev pub sound-line : ℕ → List ℕ
+sound-line q = line (ascii "sound" ∷ decimal q ∷ [])
 
 -- "`refused` and the lowest number, on a line alone"
 abbrev pub refused-line : ℕ → List ℕ

@@ -3,8 +3,8 @@
 ghost use mathlib.Core.Path.{_≡_};
 ghost use mathlib.Core.List.{_++_};
 ghost use Rattle.answer.specs.Answer.{in-chips, in-card, refused, refused-card};
-ghost use Rattle.lines.specs.Lines.{ascii, decimal, count-line, block-line, totals-line, per-thousand, sound-line, refused-line};
-ghost use Rattle.lines.specs.Put.{Put};
+ghost use Rattle.lines.specs.Lines.{ascii, decimal, count-line, block-line, totals-line, refused-line};
+ghost use Rattle.lines.specs.Put.{Put, SoundPut};
 
 pub fn count_line(n: u16, out: &mut [u8], at: usize) -> usize
     ensures { λ r. ⌜ Put (count-line n) (now (out .entry)) at r (now (out .exit)) ⌝ }
@@ -73,28 +73,17 @@ pub fn sound_line(
     out: &mut [u8],
     at: usize,
 ) -> usize
-    ensures { λ r. ⌜ Put (sound-line clean chips card none several) (now (out .entry)) at r (now (out .exit)) ⌝ }
+    ensures { λ r. ⌜ SoundPut clean chips card none several (now (out .entry)) at r (now (out .exit)) ⌝ }
 {
     let sound = clean as u32 + chips as u32 + card as u32;
     let n = sound + none as u32 + several as u32;
-    number_line(b"sound ", per_thousand(sound, n), out, at)
+    number_line(b"sound ", rounding::per_thousand(sound, n), out, at)
 }
 
 pub fn refused_line(n: u8, out: &mut [u8], at: usize) -> usize
     ensures { λ r. ⌜ Put (refused-line n) (now (out .entry)) at r (now (out .exit)) ⌝ }
 {
     number_line(b"refused ", n as u64, out, at)
-}
-
-// To the nearest, halves up: 1000 · sound / n plus a half, as one quotient that is rounded down. Of n = 0 it is 0.
-// The result is wider than the arguments, so that it fits for all of them.
-fn per_thousand(sound: u32, n: u32) -> u64
-    ensures { λ r. ⌜ r ≡ per-thousand sound n ⌝ }
-{
-    if n == 0 {
-        return 0;
-    }
-    (2000 * (sound as u64) + n as u64) / (2 * (n as u64))
 }
 
 // The word, the number and the newline.

@@ -16,6 +16,7 @@ use Rattle.marks.specs.declared.Marks.{Marks}
 use Rattle.bank.specs.Calls.{block, blocks, report-cause, EachReads, ReportDone}
 use Rattle.bank.proofs.Each.{each-alike, counts-agree}
 use Rattle.lines.specs.Lines.{block-line, totals-line, sound-line, count-line}
+use Rattle.lines.proofs.Decided.{one-figure}
 use Rattle.program.specs.Program.{input-bank, input-marks, block-lines, PrintsReport, Prints, SayDone}
 use Rattle.program.proofs.Blocks.{lines-agree}
 
@@ -31,10 +32,11 @@ report-agrees bank bank′ bank″ m a a′ d d′ =
 one-text : (bank : List ℕ) (m : Marks) (a : Answer) (t u : List ℕ) → PrintsReport bank m a t → PrintsReport bank m a u → t ≡ u
 one-text bank m (refused n) t u p q = p ∙ sym q
 one-text bank m (counted v w x y z) t u p q =
-    p .2
-    ∙ ap (λ (s : List ℕ). count-line (blocks bank) ++ (s ++ (totals-line v w x y z ++ sound-line v w x y z)))
-    (texts-agree bank m (p .0) (q .0) (p .1) (q .1))
-    ∙ sym (q .2)
+    let e = one-figure v w x y z (p .2) (q .2) (p .3) (q .3) in
+    p .4
+    ∙ ap₂ (λ (s : List ℕ) (k : ℕ). count-line (blocks bank) ++ (s ++ (totals-line v w x y z ++ sound-line k)))
+    (texts-agree bank m (p .0) (q .0) (p .1) (q .1)) e
+    ∙ sym (q .4)
 one-text bank m done t u p q = absurd p
 one-text bank m clean t u p q = absurd p
 one-text bank m (in-chips n) t u p q = absurd p

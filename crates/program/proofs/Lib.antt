@@ -6,3 +6,5 @@ pub mod Said
 pub mod Cut
 pub mod Tied
 pub mod Samples
+pub mod Sixteen
+pub mod LastLine

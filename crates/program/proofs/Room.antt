@@ -21,7 +21,8 @@ use Rattle.marks.specs.declared.Marks.{Marks}
 use Rattle.marks.proofs.Laws.{cause-lawful}
 use Rattle.reading.specs.Reading.{OnCard, ReadsUnder}
 use Rattle.bank.specs.Calls.{block, blocks, how-many, report-cause, EachReads, CountsEach, ReportDone}
-use Rattle.lines.specs.Lines.{count-line, totals-line, sound-line}
+use Rattle.rounding.proofs.PerThousand.{at-most-all}
+use Rattle.lines.specs.Lines.{count-line, totals-line, SoundFigure, sound-line}
 use Rattle.lines.proofs.Lengths.{Small, count-length, block-length, totals-length, sound-length, refused-length}
 use Rattle.program.specs.Program.{input-bank, input-marks, block-lines, bank-text, PrintsReport, Prints}
 use Rattle.program.proofs.Report.{fine, small-cause, counted-cause, refused-cause}
@@ -57,17 +58,18 @@ four a b c d p q r s e f g h l = simp length-append (omega arith)
 below : (n v : ℕ) → n ≤ 1024 → v ≤ n → v < 10000
 below n v h l = omega arith
 
-bank-length : (bank : List ℕ) (m : Marks) (f : ℕ → Answer) (v w x y z : ℕ) → report-cause (length bank) m ≡ 0 → EachReads (block bank) (blocks bank) m f
-    → v ≤ blocks bank → w ≤ blocks bank → x ≤ blocks bank → y ≤ blocks bank → z ≤ blocks bank → length (bank-text f (blocks bank) v w x y z) ≤ 16384
-bank-length bank m f v w x y z e r a b c d g =
+bank-length : (bank : List ℕ) (m : Marks) (f : ℕ → Answer) (v w x y z q : ℕ) → report-cause (length bank) m ≡ 0 → EachReads (block bank) (blocks bank) m f
+    → v ≤ blocks bank → w ≤ blocks bank → x ≤ blocks bank → y ≤ blocks bank → z ≤ blocks bank → SoundFigure v w x y z q
+    → length (bank-text f (blocks bank) v w x y z q) ≤ 16384
+bank-length bank m f v w x y z q e r a b c d g s =
     let k = fine (length bank) m e in
     let h : blocks bank ≤ 1024 = omega (arith, k .0) in
     let n = blocks bank in
-    four (count-line n) (block-lines f n) (totals-line v w x y z) (sound-line v w x y z) 12 (15 * n) 55 11
+    four (count-line n) (block-lines f n) (totals-line v w x y z) (sound-line q) 12 (15 * n) 55 11
     (count-length n (below n n h (omega arith)))
     (lines-length f n h (λ i l. small m (block bank i) (f i) (r i l .0) (cause-lawful m (k .1)) (r i l .1)))
     (totals-length v w x y z (below n v h a) (below n w h b) (below n x h c) (below n y h d) (below n z h g))
-    (sound-length v w x y z)
+    (sound-length q (omega (arith, at-most-all (v + w + x) (v + w + x + y + z) q (omega arith) s)))
     (omega arith)
 
 report-length : (bank : List ℕ) (m : Marks) (a : Answer) (text : List ℕ) → ReportDone bank m a bank → PrintsReport bank m a text → length text ≤ 16384
@@ -79,9 +81,9 @@ report-length bank m (counted v w x y z) text d p =
     let a = counted v w x y z in
     let t = by-accepted (report-cause (length bank) m) a (Unit {0}) (CountsEach (block bank) (blocks bank) m a) e (d .answer) in
     let most : (u i : ℕ) → u ≡ how-many (t .0) (blocks bank) i → u ≤ blocks bank = λ u i q. at-most (blocks bank) _ u q in
-    subst (λ (t : List ℕ). length t ≤ 16384) (sym (p .2))
-    (bank-length bank m (p .0) v w x y z e (p .1)
-    (most v 0 (cc (t .2))) (most w 1 (cc (t .2))) (most x 2 (cc (t .2))) (most y 3 (cc (t .2))) (most z 4 (cc (t .2))))
+    subst (λ (t : List ℕ). length t ≤ 16384) (sym (p .4))
+    (bank-length bank m (p .0) v w x y z (p .2) e (p .1)
+    (most v 0 (cc (t .2))) (most w 1 (cc (t .2))) (most x 2 (cc (t .2))) (most y 3 (cc (t .2))) (most z 4 (cc (t .2))) (p .3))
 report-length bank m done text d p = absurd p
 report-length bank m clean text d p = absurd p
 report-length bank m (in-chips n) text d p = absurd p

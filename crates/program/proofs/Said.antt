@@ -73,8 +73,9 @@ say-refused {input} {out} {m} {bank} {a} {n} {k} {out′} r e q =
 pub say-counted : {input out : List ℕ} {m : Marks} {bank : List ℕ} {a : Answer} {t : Totals} {k : ℕ} {out′ : List ℕ} → Found input out m bank a
     → a ≡ report-answer (Counted t) → BankPut bank m t out k out′ → SayDone input out k input out′
 say-counted {input} {out} {m} {bank} {a} {t} {k} {out′} r e q =
-    let text = bank-text (q .answers) (blocks bank) (t .clean) (t .chips) (t .card) (t .none) (t .several) in
-    say-report input out m bank a text k out′ r (subst (λ (b : Answer). PrintsReport bank m b text) (sym e) (q .answers, q .reads, refl)) (q .put)
+    let text = bank-text (q .answers) (blocks bank) (t .clean) (t .chips) (t .card) (t .none) (t .several) (q .figure) in
+    let prints = subst (λ (b : Answer). PrintsReport bank m b text) (sym e) (q .answers, q .reads, q .figure, q .rounded, refl) in
+    say-report input out m bank a text k out′ r prints (q .put)
 
 pub counted-fits : (bank bank′ : List ℕ) (m : Marks) (a : Answer) (t : Totals) → ReportDone bank m a bank′ → a ≡ report-answer (Counted t)
     → (length bank ≤ 46080) × (marks-cause m ≡ 0)

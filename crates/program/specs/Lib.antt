@@ -1,3 +1,4 @@
 pub mod Program
 pub mod Parts
 pub mod Sample
+pub mod LastLine

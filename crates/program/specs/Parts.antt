@@ -8,6 +8,7 @@ use Rattle.answer.specs.Answer.{Answer}
 use Rattle.marks.specs.declared.Marks.{Marks}
 use Rattle.bank.specs.Calls.{blocks, block, EachReads}
 use Rattle.bank.specs.declared.Totals.{Totals}
+use Rattle.lines.specs.Lines.{SoundFigure}
 use Rattle.lines.specs.Put.{Put}
 use Rattle.program.specs.Program.{block-lines, bank-text}
 
@@ -19,4 +20,6 @@ pub record BlocksPut (bank : List ℕ) (m : Marks) (n : ℕ) (out : List ℕ) (a
 pub record BankPut (bank : List ℕ) (m : Marks) (t : Totals) (out : List ℕ) (next : ℕ) (out′ : List ℕ) : Type 0 where
   pub answers : ℕ → Answer
   pub reads : EachReads (block bank) (blocks bank) m answers
-  pub put : Put (bank-text answers (blocks bank) (t .clean) (t .chips) (t .card) (t .none) (t .several)) out 0 next out′
+  pub figure : ℕ
+  pub rounded : SoundFigure (t .clean) (t .chips) (t .card) (t .none) (t .several) figure
+  pub put : Put (bank-text answers (blocks bank) (t .clean) (t .chips) (t .card) (t .none) (t .several) figure) out 0 next out′

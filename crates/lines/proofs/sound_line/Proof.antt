@@ -6,7 +6,8 @@ use Rattle.lines.proofs.sound_line.Tie as tie
 returns : tie.Need-returns
 returns c =
     let line = c .before .before in
-    rw (← line .before .before .per-thousand .ensures) (line .number-line .ensures .0)
+    let number = line .before .before .per-thousand in
+    record { figure = number .result; rounded = number .ensures; put = line .number-line .ensures .0 }
 
 pub sound-line-spec : {M : Type 1} → statement M
 sound-line-spec =

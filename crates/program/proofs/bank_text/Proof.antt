@@ -15,7 +15,9 @@ returns c =
       record {
         answers = lines .answers;
         reads = lines .reads;
-        put = joined (counted .count-line .ensures) (joined (lines .put) (joined (summed .totals-line .ensures) (sound .sound-line .ensures)));
+        figure = sound .sound-line .ensures .figure;
+        rounded = sound .sound-line .ensures .rounded;
+        put = joined (counted .count-line .ensures) (joined (lines .put) (joined (summed .totals-line .ensures) (sound .sound-line .ensures .put)));
       },
       refl,
     )

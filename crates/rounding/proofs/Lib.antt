@@ -1,0 +1,4 @@
+pub mod Rounding
+pub mod Halves
+pub mod PerThousand
+pub mod Tied
