@@ -15,9 +15,8 @@ use lib.Dec.{eqb}
 use lib.ListN.{length, length-drop}
 use Rattle.base.specs.Base.{bit, tally}
 use Rattle.answer.specs.Answer.{Answer, done, clean, in-chips, in-card, counted, refused, refused-card}
-use Rattle.answer.proofs.Causes.{by-accepted}
 use Rattle.marks.specs.declared.Marks.{Marks}
-use Rattle.bank.specs.Calls.{block, blocks, class, how-many, report-cause, CountsEach, ReportDone}
+use Rattle.bank.specs.Calls.{block, blocks, class, how-many, ReportDone}
 use Rattle.bank.proofs.Accepted.{accepts}
 use Rattle.bank.proofs.Done.{class-below}
 use Rattle.rounding.specs.PerThousand.{PerThousand}
@@ -26,7 +25,7 @@ use Rattle.rounding.proofs.PerThousand.{worked, all-or-none}
 use Rattle.lines.specs.Lines.{digits-up-to, decimal, count-line, totals-line, sound-line}
 use Rattle.program.specs.Program.{input-marks, input-bank, block-lines, PrintsReport}
 use Rattle.program.specs.LastLine.{TotalsAddUp, EndsWith, LastLine, OfSixteen}
-use Rattle.program.proofs.Report.{counted-cause}
+use Rattle.program.proofs.Report.{counted-cause, counted-each}
 use Rattle.program.proofs.Decided.{report-agrees}
 
 one-place : (c : ℕ) → c < 5 → bit (eqb c 0) + bit (eqb c 1) + bit (eqb c 2) + bit (eqb c 3) + bit (eqb c 4) ≡ 1
@@ -55,9 +54,7 @@ sum-of (refused-card n j) = 0
 
 pub totals-add-up : TotalsAddUp
 totals-add-up bank bank′ m v w x y z d =
-    let e = counted-cause bank bank′ m v w x y z d in
-    let a = counted v w x y z in
-    let t = by-accepted (report-cause (length bank) m) a (Unit {0}) (CountsEach (block bank) (blocks bank) m a) e (d .answer) in
+    let t = counted-each bank bank′ m v w x y z d in
     ap sum-of (t .2) ∙ all-counted (t .0) (blocks bank) (λ k l. let r = t .1 k l in class-below m (block bank k) _ (t .0 k) (r .0) (r .1))
 
 some-blocks : (bank bank′ : List ℕ) (m : Marks) (v w x y z : ℕ) → ReportDone bank m (counted v w x y z) bank′ → (1 ≤ blocks bank) × (blocks bank ≤ 1024)

@@ -2,7 +2,7 @@
 --
 --   fine            a bank that is not refused has at most 46,080 bytes, and its marks are lawful
 --   small-cause     the number of a refusal is at most 7
---   counted-cause   a report that counts is not refused
+--   counted-cause   a report that counts is not refused; counted-each: it counts how each block reads
 --   refused-cause   a refused report says the number of its cause
 use mathlib.Core.Path.{_≡_, refl, ap}
 use mathlib.Core.Logic.{_⊎_, inl, inr}
@@ -13,7 +13,7 @@ use native.Mathlib.Omega.{arith}
 use lib.ListN.{length}
 use Rattle.answer.specs.Answer.{counted, refused, By}
 use Rattle.answer.specs.Cause.{cause, lowest}
-use Rattle.answer.proofs.Causes.{Holds, lowest-is, none-holds}
+use Rattle.answer.proofs.Causes.{Holds, lowest-is, none-holds, by-accepted}
 use Rattle.marks.specs.Marks.{marks-causes, marks-cause}
 use Rattle.marks.specs.declared.Marks.{Marks}
 use Rattle.bank.specs.Calls.{bad-bank, size-causes, report-cause, ReportDone, CountsEach, block, blocks}
@@ -43,6 +43,9 @@ module _ (bank bank′ : List ℕ) (m : Marks) where
       go : (c : ℕ) → By c (counted v w x y z) (Unit {0}) (CountsEach (block bank) (blocks bank) m (counted v w x y z)) → c ≡ 0
       go zero b = refl
       go (suc c) b = let z : _≡_ {A = ℕ} 0 1 = cc (b .0) in absurd (omega arith)
+
+  pub counted-each : (v w x y z : ℕ) → ReportDone bank m (counted v w x y z) bank′ → CountsEach (block bank) (blocks bank) m (counted v w x y z)
+  counted-each v w x y z d = by-accepted (report-cause (length bank) m) (counted v w x y z) (Unit {0}) _ (counted-cause v w x y z d) (d .answer)
 
   pub refused-cause : (n : ℕ) → ReportDone bank m (refused n) bank′ → n ≡ report-cause (length bank) m
   refused-cause n d = go (report-cause (length bank) m) (d .answer)

@@ -12,7 +12,6 @@ use native.Mathlib.Omega.{arith}
 use lib.ListN.{length, length-append}
 use Rattle.base.proofs.Tally.{at-most}
 use Rattle.answer.specs.Answer.{Answer, done, clean, in-chips, in-card, counted, refused, refused-card}
-use Rattle.answer.proofs.Causes.{by-accepted}
 use Rattle.code.specs.Block.{changes}
 use Rattle.marks.specs.Marks.{CardInRange, LawfulMarks, marked-chips}
 use Rattle.marks.specs.declared.CardMark.{CardMark}
@@ -20,12 +19,12 @@ use Rattle.marks.specs.declared.CardMark.the-variants.{None, Card}
 use Rattle.marks.specs.declared.Marks.{Marks}
 use Rattle.marks.proofs.Laws.{cause-lawful}
 use Rattle.reading.specs.Reading.{OnCard, ReadsUnder}
-use Rattle.bank.specs.Calls.{block, blocks, how-many, report-cause, EachReads, CountsEach, ReportDone}
+use Rattle.bank.specs.Calls.{block, blocks, how-many, report-cause, EachReads, ReportDone}
 use Rattle.rounding.proofs.PerThousand.{at-most-all}
 use Rattle.lines.specs.Lines.{count-line, totals-line, SoundFigure, sound-line}
 use Rattle.lines.proofs.Lengths.{Small, count-length, block-length, totals-length, sound-length, refused-length}
 use Rattle.program.specs.Program.{input-bank, input-marks, block-lines, bank-text, PrintsReport, Prints}
-use Rattle.program.proofs.Report.{fine, small-cause, counted-cause, refused-cause}
+use Rattle.program.proofs.Report.{fine, small-cause, counted-cause, counted-each, refused-cause}
 
 on-card : (c : CardMark) (j : ℕ) (ps b x : List ℕ) → CardInRange c → OnCard c j ps b x → j < 10
 on-card None j ps b x r o = omega (arith, o .0)
@@ -78,8 +77,7 @@ report-length bank m (refused n) text d p =
     subst (λ (t : List ℕ). length t ≤ 16384) (sym p) (le-trans l (omega arith))
 report-length bank m (counted v w x y z) text d p =
     let e = counted-cause bank bank m v w x y z d in
-    let a = counted v w x y z in
-    let t = by-accepted (report-cause (length bank) m) a (Unit {0}) (CountsEach (block bank) (blocks bank) m a) e (d .answer) in
+    let t = counted-each bank bank m v w x y z d in
     let most : (u i : ℕ) → u ≡ how-many (t .0) (blocks bank) i → u ≤ blocks bank = λ u i q. at-most (blocks bank) _ u q in
     subst (λ (t : List ℕ). length t ≤ 16384) (sym (p .4))
     (bank-length bank m (p .0) v w x y z (p .2) e (p .1)

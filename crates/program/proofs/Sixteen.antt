@@ -19,7 +19,7 @@ use Rattle.bank.specs.Calls.{block, report-cause}
 use Rattle.rounding.proofs.PerThousand.{worked}
 use Rattle.lines.specs.Lines.{digits-up-to, decimal}
 use Rattle.program.specs.Program.{input-marks, input-bank}
-use Rattle.program.specs.Sample.{sixteen-input, SixteenPrint}
+use Rattle.program.specs.Sample.{sixteen-input, SixteenCounted, SixteenPrint}
 
 each-of-16 : (P : ℕ → Type 0) → P 0 → P 1 → P 2 → P 3 → P 4 → P 5 → P 6 → P 7 → P 8 → P 9 → P 10 → P 11 → P 12 → P 13 → P 14 → P 15
     → (k : ℕ) → k < 16 → P k
@@ -50,23 +50,19 @@ three-read : (k : ℕ) → k < 16 → Reads 3 k
 unfolding marks-in of-bytes
 three-read = each-of-16 (Reads 3) good good good bad bad bad bad bad bad bad bad bad bad bad bad bad
 
+one-counted : SixteenCounted 1 (counted 1 0 0 15 0)
+unfolding report-cause marks-in of-bytes in-range two-equal tally
+one-counted = record { kept = refl; answer = (says 1, one-read, refl) }
+
+three-counted : SixteenCounted 3 (counted 3 0 0 13 0)
+unfolding report-cause marks-in of-bytes in-range two-equal tally
+three-counted = record { kept = refl; answer = (says 3, three-read, refl) }
+
 pub sixteen : SixteenPrint
-unfolding report-cause marks-in of-bytes in-range two-equal tally decimal digits-up-to
+unfolding decimal digits-up-to
 sixteen = (
-  record {
-    short = λ h. absurd (omega arith);
-    otherwise = λ h. (
-      counted 1 0 0 15 0,
-      record { kept = refl; answer = (says 1, one-read, refl) },
-      (says 1, one-read, 62, worked .0, refl),
-    );
-  },
-  record {
-    short = λ h. absurd (omega arith);
-    otherwise = λ h. (
-      counted 3 0 0 13 0,
-      record { kept = refl; answer = (says 3, three-read, refl) },
-      (says 3, three-read, 188, worked .1, refl),
-    );
-  },
+  one-counted,
+  record { short = λ h. absurd (omega arith); otherwise = λ h. (counted 1 0 0 15 0, one-counted, (says 1, one-read, 62, worked .0, refl)) },
+  three-counted,
+  record { short = λ h. absurd (omega arith); otherwise = λ h. (counted 3 0 0 13 0, three-counted, (says 3, three-read, 188, worked .1, refl)) },
 )

@@ -3,12 +3,14 @@
 --   sample-input, sample-text   what is read, and what is printed
 --   SamplePrints                the program prints that text of that input
 --   sixteen-input s             16 blocks, the first s of them sound, s being at most 16
---   SixteenPrint                what the program prints of the inputs with one sound block and with three
+--   SixteenPrint                what is counted and printed of the inputs with one sound block and with three
 use mathlib.Core.List.{List, [], _∷_, _++_}
 use Prim.Native.Nat.{ℕ, zero, suc, _-_}
 use lib.ListN.{replicate}
+use Rattle.answer.specs.Answer.{Answer, counted}
+use Rattle.bank.specs.Calls.{ReportDone}
 use Rattle.lines.specs.Lines.{ascii}
-use Rattle.program.specs.Program.{Prints}
+use Rattle.program.specs.Program.{input-marks, input-bank, Prints}
 
 -- "255, 0, 255, 255, then 45 zeros, then 8, 6, 1 and 42 zeros"
 abbrev pub sample-input : List ℕ
@@ -41,5 +43,10 @@ three-sound-text =
     ascii "blocks 16\n3 none\n4 none\n5 none\n6 none\n7 none\n8 none\n9 none\n10 none\n11 none\n12 none\n13 none\n"
     ++ ascii "14 none\n15 none\nclean 3 chips 0 card 0 none 13 several 0\nsound 188\n"
 
+-- the report of that input
+abbrev pub SixteenCounted : ℕ → Answer → Type 0
+SixteenCounted s a = ReportDone (input-bank (sixteen-input s)) (input-marks (sixteen-input s)) a (input-bank (sixteen-input s))
+
 abbrev pub SixteenPrint : Type 0
-SixteenPrint = Prints (sixteen-input 1) one-sound-text × Prints (sixteen-input 3) three-sound-text
+SixteenPrint = SixteenCounted 1 (counted 1 0 0 15 0) × Prints (sixteen-input 1) one-sound-text
+    × SixteenCounted 3 (counted 3 0 0 13 0) × Prints (sixteen-input 3) three-sound-text
