@@ -10,7 +10,8 @@ record is 4 bytes (card, count, first, second) with 255 for "none".
 
 The parts, in order: field, labels, check rules, elimination, storing, marks,
 allowed changes, the set S, reading, the calls on lent bytes.  registers.py has
-order 1's registers, window.py order 2's window, book.py the book.
+order 1's registers, window.py order 2's window, slips.py order 8's slips,
+book.py the book.
 """
 
 import math

@@ -20,10 +20,11 @@ class Patrolled:
         self.seen = seen
         mended, window = bytearray(bank), bytearray(library.WINDOW)
         lib.call("clear_window", window)
-        answers = [lib.call("patrol", mended, k, seen.marks, window)
-                   for k in range(seen.blocks)]
+        self.answers = [lib.call("patrol", mended, k, seen.marks, window)
+                        for k in range(seen.blocks)]
         self.bank = bytes(mended)
-        self.added = sum(answer.n for answer in answers if answer.number == 0)
+        self.added = sum(answer.n for answer in self.answers
+                         if answer.number == 0)
         self.held = [p for p in window if p != NOWHERE]
         self.times = Counter(self.held)
         self.proposed = proposed(lib, window, seen.marks)

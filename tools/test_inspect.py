@@ -268,9 +268,9 @@ class Manual(unittest.TestCase):
 
     def test_it_has_every_option(self):
         help_text = run(INSPECT, "--help").out
-        wanted = set(re.findall(r"--[a-z]+", help_text)) - {"--help"}
+        wanted = set(re.findall(r"--[a-z-]+", help_text)) - {"--help"}
         options = self.page.split(".SH OPTIONS")[1].split(".SH")[0]
-        found = re.findall(r"^\.BI? (--[a-z]+)", options.replace("\\-", "-"), re.M)
+        found = re.findall(r"^\.BI? (--[a-z-]+)", options.replace("\\-", "-"), re.M)
         self.assertEqual((set(found), len(found)), (wanted, len(wanted)))
 
     def test_its_example_is_what_is_said(self):

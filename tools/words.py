@@ -42,20 +42,27 @@ def listed(numbers):
     return ", ".join(str(number) for number in numbers)
 
 
-def block_line(u):
-    if u.word == "none":
-        said = "none"
-    elif u.word == "several":
-        said = f"several; card {u.card} is the lowest whose change reaches a record"
-    else:
+def reading_words(u):
+    """A reading without the positions that were changed."""
+    if u.word == "several":
+        return (f"several; card {u.card} is the lowest whose change reaches a "
+                "record")
+    if u.word in ("chips", "card"):
         what = "chips" if u.word == "chips" else f"card {u.card}"
-        said = f"{what}, {plural(u.n, 'byte')}: {places(u.changed)}"
-    return wrapped(f"block {u.k}: {said}")
+        return f"{what}, {plural(u.n, 'byte')}"
+    return u.word
 
 
-def totals(seen):
+def block_line(u):
+    where = f": {places(u.changed)}" if u.changed else ""
+    return wrapped(f"block {u.k}: {reading_words(u)}{where}")
+
+
+def totals(seen, **meaning):
+    """A line for each; some may mean something else than above."""
     share = sound_per_thousand(seen.totals)
-    lines = [f"  {word:<8}{total:>5}   {MEANING[word]}"
+    meaning = {**MEANING, **meaning}
+    lines = [f"  {word:<8}{total:>5}   {meaning[word]}"
              for word, total in zip(TOTALS, seen.totals)]
     lines.append(f"  {'sound':<8}{seen.read:>5}   of {seen.blocks:,}: {share} per "
                  "thousand give a record")
@@ -165,6 +172,10 @@ def written_lines(seen, written):
             f"{plural(len(seen.unread), 'unread block')} as before"))
     if written["picture"]:
         lines.append(wrapped(f"{written['picture']}: the picture"))
+    if written["slips"]:
+        lines.append(wrapped(
+            f"{written['slips']}: {plural(seen.blocks, 'slip')}, one of each "
+            "block's reading"))
     return lines
 
 
@@ -193,7 +204,7 @@ def chip_object(p, **more):
     return {"position": p, "card": p // CHIPS, "chip": p % CHIPS, **more}
 
 
-def block_object(u):
+def reading_object(u):
     made = {"block": u.k, "reading": u.word}
     if u.word == "several":
         made["card_that_fits"] = u.card
@@ -201,6 +212,12 @@ def block_object(u):
         made["card"] = u.card
     if u.word in ("chips", "card"):
         made["n"] = u.n
+    return made
+
+
+def block_object(u):
+    made = reading_object(u)
+    if u.changed:
         made["changed"] = [chip_object(p) for p in u.changed]
     return made
 

@@ -1,5 +1,5 @@
 """Compares the library's calls with second/: reference.py, registers.py,
-window.py, book.py.
+window.py, book.py, slips.py.
 
 First single calls: every length of every slice, every address of the registers,
 each card mark with each set of chips, and every sort of window.  Then seeded lists
@@ -9,6 +9,8 @@ every entry but a hit every byte of bank, output, registers (8 to 11 are the mar
 and window, the interrupt and the proposal.  A run of 500 lists or more fails if no
 entry had a proposal, none had one hidden by a mark, at none one left the window, or
 none placed a chip, one of two chips or a card again, by call or by command.
+Last slips: every short slice over the values at the limits, every outcome, and what
+gets of damaged banks give.
 
 A difference is printed with its seed and the shortest list of entries found
 that shows it, and the exit is 1.
@@ -28,6 +30,7 @@ import library                      # noqa: E402
 import reference as ref             # noqa: E402
 import registers                    # noqa: E402
 import single                       # noqa: E402
+import single_slips                 # noqa: E402
 import window                       # noqa: E402
 from agree import Difference, expect, expect_answer  # noqa: E402
 from book import Book               # noqa: E402
@@ -238,6 +241,26 @@ def one_large_list(lib, seed):
         run.do(entry)
 
 
+def single_calls(lib, seed):
+    """Calls alone, and the largest bank; gives how many calls were made."""
+    calls = single.compare_all(lib, random.Random(seed))
+    one_large_list(lib, seed)
+    return calls
+
+
+def slip_calls(lib, seed):
+    return single_slips.compare_all(lib, random.Random(seed))
+
+
+def or_exit(compare, lib, seed):
+    """What a comparison gives; a difference is printed, and the exit is 1."""
+    try:
+        return compare(lib, seed)
+    except (Difference, library.Overrun) as difference:
+        print(f"difference: --seed {seed}\n{difference}")
+        sys.exit(1)
+
+
 def main():
     parser = argparse.ArgumentParser(
         formatter_class=argparse.RawDescriptionHelpFormatter,
@@ -256,12 +279,7 @@ def main():
     args = parser.parse_args()
     begin = time.monotonic()
     with library.open_library(args.library) as lib:
-        try:
-            calls = single.compare_all(lib, random.Random(args.seed))
-            one_large_list(lib, args.seed)
-        except (Difference, library.Overrun) as difference:
-            print(f"difference: --seed {args.seed}\n{difference}")
-            sys.exit(1)
+        calls = or_exit(single_calls, lib, args.seed)
         entries, seen = 0, Seen()
         for number in range(args.from_list, args.from_list + args.lists):
             made = run_list(lib, args.seed, number, args.entries)
@@ -269,12 +287,14 @@ def main():
                 sys.exit(1)
             entries += made[0]
             seen.update(made[1])
+        on_slips = or_exit(slip_calls, lib, args.seed)
     if args.lists >= ENOUGH and seen.lacking():
         print(f"{args.lists} lists, but no entry " + ", none ".join(seen.lacking()))
         sys.exit(1)
     print(f"library and second/reference.py agree: seed {args.seed}, "
-          f"{calls} calls of every length and address, {args.lists} lists, "
-          f"{entries} entries, {seen.words()}, {time.monotonic() - begin:.0f} s")
+          f"{calls} calls of every length and address, {on_slips} calls on "
+          f"slips, {args.lists} lists, {entries} entries, {seen.words()}, "
+          f"{time.monotonic() - begin:.0f} s")
 
 
 if __name__ == "__main__":

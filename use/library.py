@@ -2,8 +2,8 @@
 
 open_library(archive) links the static archive into a shared object in a
 temporary folder and gives a Library, which makes document 01's calls and those
-of order 1's registers and order 2's window on bytearrays.  The slices of a call
-are lent between guard bytes, which are compared after it.
+of order 1's registers, order 2's window and order 8's slips on bytearrays.  The
+slices of a call are lent between guard bytes, which are compared after it.
 """
 
 import contextlib
@@ -26,6 +26,10 @@ Answer = namedtuple("Answer", "number kind card n")
 Report = namedtuple("Report", "number totals")
 Register = namedtuple("Register", "number byte")
 Proposal = namedtuple("Proposal", "number chip")
+# A slip written, and one read.  offset: with 0 that of the next slip; with a
+# reader's refusal that of its cause, with a writer's the one asked for.
+Written = namedtuple("Written", "number offset")
+Slip = namedtuple("Slip", "number offset k reading")
 
 _AT, _LEN = ctypes.c_void_p, ctypes.c_size_t
 _U8, _U32, _U64 = ctypes.c_uint8, ctypes.c_uint32, ctypes.c_uint64
@@ -33,7 +37,7 @@ _U8, _U32, _U64 = ctypes.c_uint8, ctypes.c_uint32, ctypes.c_uint64
 # Each call's arguments in order: "in" and "out" are lent slices, the second
 # kind may be written; "in12" and "out12" are the registers, "in64" and "out64"
 # the window, likewise; "k" is a block number, "mark" a chip's or card's number,
-# "byte" what a register gets.
+# "byte" what a register gets, "at" an offset, "code" an answer_code.
 CALLS = {
     "store": (_U32, ("in", "out")),
     "read": (_U32, ("in", "in", "out")),
@@ -51,12 +55,15 @@ CALLS = {
     "interrupt": (_U32, ("in12",)),
     "clear_window": (_U32, ("out64",)),
     "propose": (_U32, ("in64", "in")),
+    "write_slip": (_U32, ("out", "at", "k", "code")),
+    "read_slip": (_U64, ("in", "at")),
 }
 # How many bytes a slice must have; where they may be any, their number is passed
 # along.
 _SLICES = {"in": None, "out": None, "in12": REGISTERS, "out12": REGISTERS,
            "in64": WINDOW, "out64": WINDOW}
-_NUMBERS = {"k": _LEN, "mark": _U32, "address": _U32, "byte": _U8}
+_NUMBERS = {"k": _LEN, "mark": _U32, "address": _U32, "byte": _U8, "at": _LEN,
+            "code": _U32}
 _BELOW = {kind: 1 << 8 * ctypes.sizeof(of) for kind, of in _NUMBERS.items()}
 
 
@@ -111,6 +118,23 @@ def _take_over(kinds, arguments, after):
             at += len(value)
 
 
+def answer_of(code):
+    """An answer's code taken apart."""
+    return Answer(*(code >> at & 0xFF for at in (0, 8, 16, 24)))
+
+
+def answer_code(answer):
+    """The code of an answer, as read, get and patrol give it."""
+    return int.from_bytes(bytes(answer), "little")
+
+
+def _slip_of(code, slips, at):
+    """A slip's code taken apart; no bit of it is passed over."""
+    number, further = code & 0xFF, code >> 8 & 0xFF
+    offset = (len(slips) if number == 15 else at) + further
+    return Slip(number, offset, code >> 16 & 0xFFFF, answer_of(code >> 32))
+
+
 class Library:
     def __init__(self, shared_object):
         self._calls = {}
@@ -145,9 +169,13 @@ class Library:
             return Register(code & 0xFF, code >> 8)
         if name == "propose":
             return Proposal(code & 0xFF, code >> 8)
+        if name == "write_slip":
+            return Written(code & 0xFF, arguments[1] + (code >> 8))
+        if name == "read_slip":
+            return _slip_of(code, *arguments)
         if name in ("write_register", "interrupt"):
             return code
-        return Answer(*(code >> at & 0xFF for at in (0, 8, 16, 24)))
+        return answer_of(code)
 
 
 @contextlib.contextmanager

@@ -100,10 +100,11 @@ class Compare(WithFaults):
                        "--from-list", 10, "--entries", 20)
         self.assertEqual(done.returncode, 0, done.stdout)
         found = re.search(r"agree: seed 5, (\d+) calls of every length and address, "
-                          r"3 lists, (\d+) entries", done.stdout)
+                          r"(\d+) calls on slips, 3 lists, (\d+) entries", done.stdout)
         self.assertGreater(int(found[1]), 20_000)
-        self.assertLess(60 - 1, int(found[2]))
-        self.assertLess(int(found[2]), 3 * (20 + 45))
+        self.assertGreater(int(found[2]), 1_000_000)
+        self.assertLess(60 - 1, int(found[3]))
+        self.assertLess(int(found[3]), 3 * (20 + 45))
 
     @needs("gcc", "objcopy", "ar")
     def test_a_fault_is_found_and_the_list_is_short(self):
@@ -134,25 +135,29 @@ class Compare(WithFaults):
         self.assertEqual(done.returncode, 1)
         self.assertIn("none.a is not there", done.stderr)
 
-    def test_all_that_is_counted_comes(self):
-        done = compare("--library", ARCHIVE, "--lists", comparison.ENOUGH)
-        self.assertEqual(done.returncode, 0, done.stdout)
-        for what in seen.ALL:
-            self.assertRegex(done.stdout, rf", [1-9]\d* {what}, ")
-
-    def run_of(self, lists, *entries):
-        """The exit and what is printed, where each list has these entries alone."""
-        words = ["compare", "--library", str(ARCHIVE), "--lists", str(lists),
-                 "--entries", "1"]
+    def main_of(self, *options):
+        """The exit and what is printed, with no slips compared."""
+        words = ["compare", "--library", str(ARCHIVE), *map(str, options)]
         with mock.patch.object(sys, "argv", words), \
-                mock.patch.object(single, "compare_all", return_value=0), \
-                mock.patch.object(comparison, "next_entries", return_value=entries), \
+                mock.patch.object(comparison, "slip_calls", return_value=0), \
                 contextlib.redirect_stdout(io.StringIO()) as said:
             try:
                 comparison.main()
             except SystemExit as ended:
                 return ended.code, said.getvalue()
         return 0, said.getvalue()
+
+    def run_of(self, lists, *entries):
+        """The same, where each list has these entries alone."""
+        with mock.patch.object(single, "compare_all", return_value=0), \
+                mock.patch.object(comparison, "next_entries", return_value=entries):
+            return self.main_of("--lists", lists, "--entries", 1)
+
+    def test_all_that_is_counted_comes(self):
+        ended, said = self.main_of("--lists", comparison.ENOUGH)
+        self.assertEqual(ended, 0, said)
+        for what in seen.ALL:
+            self.assertRegex(said, rf", [1-9]\d* {what}, ")
 
     def test_many_lists_in_which_something_lacks_do_not_pass(self):
         def lacking(*there):

@@ -11,7 +11,7 @@ WHOLE = {"liblivomashen.a", "livomashen.h", "livomashen.pc", "livomashen.3",
          "cabinet.1", "inspect.1", "DATA-SHEET.md", "example.c", "registers.c",
          "Cargo.toml", "build.rs", "src/lib.rs", "src/livomashen.rs",
          *(f"src/livomashen/{part}.rs"
-           for part in ("raw", "refusal", "registers", "window"))}
+           for part in ("raw", "refusal", "registers", "slips", "window"))}
 
 
 def version():
@@ -100,7 +100,7 @@ class Installed(InFolder):
         self.assertEqual((prefix / "lib/liblivomashen.a").read_bytes(),
                          ARCHIVE.read_bytes())
         pages = {name for name in found if re.search(r"man3/livomashen_\w+\.3$", name)}
-        self.assertEqual(len(pages), 16)
+        self.assertEqual(len(pages), 18)
         self.assertEqual(names(into), WHOLE)
 
     @needs("man")
@@ -109,7 +109,8 @@ class Installed(InFolder):
         run(ROOT / "use" / "build", "--library", ARCHIVE, "--into",
             self.folder / "into", "--prefix", prefix)
         for call in ("livomashen_patrol", "livomashen_write_register",
-                     "livomashen_clear_window", "livomashen_propose"):
+                     "livomashen_clear_window", "livomashen_propose",
+                     "livomashen_read_slip"):
             said = run("man", "-M", prefix / "share" / "man", call)
             self.assertIn("five memory cards", " ".join(said.split()))
 

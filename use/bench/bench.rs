@@ -28,7 +28,7 @@ mod codecs;
 mod fec;
 mod plainly;
 
-use cases::{Case, Input, What, CASES, NO_MARKS};
+use cases::{reading, slip_of, Case, Input, What, CASES, NO_MARKS};
 use codecs::{codecs, Codec, Window};
 use random::Random;
 use std::hint::black_box;
@@ -50,6 +50,8 @@ struct Ready<'a> {
     window: Window,
     /// For each input of a proposal, a full window.
     windows: Vec<Window>,
+    /// For each input, a reading's code and its slip.
+    slips: Vec<(u32, Vec<u8>)>,
 }
 
 fn ready<'a>(case: &Case, codec: &'a Codec) -> Ready<'a> {
@@ -78,6 +80,11 @@ fn ready<'a>(case: &Case, codec: &'a Codec) -> Ready<'a> {
         _ => 0,
     };
     let windows = (0..proposals).map(|_| full_window(&mut rng)).collect();
+    let slip = |k| {
+        let code = reading(&mut rng);
+        (code, slip_of(k, code))
+    };
+    let slips = (0..case.inputs).map(slip).collect();
     Ready {
         codec,
         what: case.what,
@@ -86,6 +93,7 @@ fn ready<'a>(case: &Case, codec: &'a Codec) -> Ready<'a> {
         bank,
         window: [255; 64],
         windows,
+        slips,
     }
 }
 
@@ -121,9 +129,9 @@ impl Ready<'_> {
         black_box(out);
     }
 
-    fn call(&mut self, k: usize, out: &mut [u8]) -> u32 {
-        let input = &self.inputs[k];
-        match self.what {
+    fn call(&mut self, k: usize, out: &mut [u8]) -> u64 {
+        let (input, slip) = (&self.inputs[k], &self.slips[k]);
+        let code = match self.what {
             What::Store => self.codec.store(black_box(&input.record), out),
             What::Get => {
                 let bank = black_box(&self.bank);
@@ -136,8 +144,11 @@ impl Ready<'_> {
             What::Propose => self
                 .codec
                 .propose(black_box(&self.windows[k]), &input.marks),
+            What::WriteSlip => self.codec.write_slip(out, 0, k, black_box(slip.0)),
+            What::ReadSlip => return self.codec.read_slip(black_box(&slip.1), 0),
             _ => self.codec.read(black_box(self.block(k)), &input.marks, out),
-        }
+        };
+        code.into()
     }
 
     /// A time or count is worth nothing if the answers are not right.
@@ -156,13 +167,26 @@ impl Ready<'_> {
                 What::ReadAny => {}
                 What::ReadNone => assert_eq!(number, 10, "{}: {k}", self.codec.name),
                 What::Propose => {
-                    let chip = to_propose(&self.windows[k]) as u32;
+                    let chip = to_propose(&self.windows[k]) as u64;
                     assert_eq!(code, chip << 8, "{}: {k}", self.codec.name);
                 }
+                What::WriteSlip | What::ReadSlip => self.check_slip(k, code, &out),
                 _ => self.check_done(k, number, &out),
             }
         }
         self.check_window();
+    }
+
+    /// A slip written has its bytes and length, one read what it says as well.
+    fn check_slip(&self, k: usize, code: u64, out: &[u8]) {
+        let (reading, slip) = &self.slips[k];
+        let mut wanted = (slip.len() as u64) << 8;
+        if self.what == What::ReadSlip {
+            wanted |= (k as u64) << 16 | (*reading as u64) << 32;
+        } else {
+            assert_eq!(out[..slip.len()], **slip, "{}: {k}", self.codec.name);
+        }
+        assert_eq!(code, wanted, "{}: {k}", self.codec.name);
     }
 
     /// The last of the changed positions are in the window.
@@ -181,7 +205,7 @@ impl Ready<'_> {
     }
 
     /// The call is not refused, and the block it gives is the one put.
-    fn check_done(&self, k: usize, number: u32, out: &[u8]) {
+    fn check_done(&self, k: usize, number: u64, out: &[u8]) {
         let (name, input) = (self.codec.name, &self.inputs[k]);
         assert_eq!(number, 0, "{name}: input {k} is refused");
         let given = match self.what {
@@ -204,7 +228,7 @@ impl Ready<'_> {
 fn takes_part(case: &Case, codec: &Codec) -> bool {
     match case.what {
         What::ReadAny | What::ReadNone => codec.name != "fec",
-        What::Propose => codec.propose.is_some(),
+        What::Propose | What::WriteSlip | What::ReadSlip => codec.beyond.is_some(),
         _ => true,
     }
 }

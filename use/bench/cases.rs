@@ -23,8 +23,10 @@ pub enum What {
     ReadNone,
     Get,
     Patrol,
-    /// A proposal from a full window; libfec has none.
+    /// A proposal from a full window; libfec has none, and no slips.
     Propose,
+    WriteSlip,
+    ReadSlip,
     /// One report over clean blocks; times and counts are for a block.
     Report,
 }
@@ -38,6 +40,8 @@ impl What {
             What::Get => "get",
             What::Patrol => "patrol",
             What::Propose => "propose",
+            What::WriteSlip => "write_slip",
+            What::ReadSlip => "read_slip",
             What::Report => "report",
         }
     }
@@ -131,6 +135,30 @@ fn anything(rng: &mut Random) -> ([u8; BLOCK], [u8; 4]) {
     (damage, marks)
 }
 
+/// What may be said of a block, as the library's code.
+pub fn reading(rng: &mut Random) -> u32 {
+    let card = rng.below(5) as u8;
+    u32::from_le_bytes(match rng.below(5) {
+        0 => [0; 4],
+        1 => [0, 1, 0, 1 + rng.below(2) as u8],
+        2 => [0, 2, card, 1 + rng.below(11) as u8],
+        3 => [10, 0, 0, 0],
+        _ => [11, 0, card, 0],
+    })
+}
+
+/// The slip that block k and its reading have.
+pub fn slip_of(k: usize, reading: u32) -> Vec<u8> {
+    let [low, high] = (k as u16).to_le_bytes();
+    match reading.to_le_bytes() {
+        [0, 0, ..] => vec![3, low, high, 0],
+        [0, 1, _, n] => vec![11, low, high, 1, n],
+        [0, _, card, n] => vec![15, low, high, 2, card, n],
+        [10, ..] => vec![17, low, high, 10],
+        [_, _, card, _] => vec![21, low, high, card, 11],
+    }
+}
+
 type Make = fn(&mut Random) -> ([u8; BLOCK], [u8; 4]);
 
 const fn case(name: &'static str, what: What, inputs: usize, make: Make) -> Case {
@@ -151,7 +179,7 @@ const fn chip_case(name: &'static str, what: What) -> Case {
     }
 }
 
-pub const CASES: [Case; 16] = [
+pub const CASES: [Case; 18] = [
     case("store", What::Store, INPUTS, nothing),
     case("read-clean", What::Read, INPUTS, nothing),
     case("get-clean", What::Get, INPUTS, nothing),
@@ -175,6 +203,8 @@ pub const CASES: [Case; 16] = [
     case("read-none", What::ReadNone, INPUTS, two_chips_of_two_cards),
     case("read-any", What::ReadAny, 8192, anything),
     case("propose", What::Propose, INPUTS, nothing),
+    case("write-slip", What::WriteSlip, INPUTS, nothing),
+    case("read-slip", What::ReadSlip, INPUTS, nothing),
     case("patrol-1024", What::Patrol, 1024, nothing),
     case("report-256", What::Report, 256, nothing),
     case("report-1024", What::Report, 1024, nothing),

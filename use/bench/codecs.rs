@@ -12,10 +12,19 @@ type Get =
     unsafe extern "C" fn(*const u8, usize, usize, *const u8, usize, *mut u8, usize, *mut u8) -> u32;
 type Patrol = unsafe extern "C" fn(*mut u8, usize, usize, *const u8, usize, *mut u8) -> u32;
 type Propose = unsafe extern "C" fn(*const u8, *const u8, usize) -> u32;
+type WriteSlip = unsafe extern "C" fn(*mut u8, usize, usize, usize, u32) -> u32;
+type ReadSlip = unsafe extern "C" fn(*const u8, usize, usize) -> u64;
 type Report = unsafe extern "C" fn(*const u8, usize, *const u8, usize) -> u64;
 
 /// The last 64 changed positions, at its end.
 pub type Window = [u8; 64];
+
+/// What libfec has nothing of.
+pub struct Beyond {
+    propose: Propose,
+    write_slip: WriteSlip,
+    read_slip: ReadSlip,
+}
 
 pub struct Codec {
     pub name: &'static str,
@@ -23,9 +32,8 @@ pub struct Codec {
     read: Read,
     get: Get,
     patrol: Patrol,
-    /// libfec has none.
-    pub propose: Option<Propose>,
     report: Report,
+    pub beyond: Option<Beyond>,
 }
 
 impl Codec {
@@ -56,13 +64,24 @@ impl Codec {
         unsafe { (self.patrol)(b, bank.len(), k, m, marks.len(), w) }
     }
 
-    pub fn propose(&self, window: &Window, marks: &[u8]) -> u32 {
-        let propose = self.propose.expect("a codec that proposes");
-        unsafe { propose(window.as_ptr(), marks.as_ptr(), marks.len()) }
-    }
-
     pub fn report(&self, bank: &[u8], marks: &[u8]) -> u64 {
         unsafe { (self.report)(bank.as_ptr(), bank.len(), marks.as_ptr(), marks.len()) }
+    }
+
+    fn beyond(&self) -> &Beyond {
+        self.beyond.as_ref().expect("a codec other than libfec")
+    }
+
+    pub fn propose(&self, window: &Window, marks: &[u8]) -> u32 {
+        unsafe { (self.beyond().propose)(window.as_ptr(), marks.as_ptr(), marks.len()) }
+    }
+
+    pub fn write_slip(&self, slips: &mut [u8], at: usize, k: usize, reading: u32) -> u32 {
+        unsafe { (self.beyond().write_slip)(slips.as_mut_ptr(), slips.len(), at, k, reading) }
+    }
+
+    pub fn read_slip(&self, slips: &[u8], at: usize) -> u64 {
+        unsafe { (self.beyond().read_slip)(slips.as_ptr(), slips.len(), at) }
     }
 }
 
@@ -75,8 +94,12 @@ pub fn codecs() -> Vec<Codec> {
             read: raw::livomashen_read,
             get: raw::livomashen_get,
             patrol: raw::livomashen_patrol,
-            propose: Some(raw::livomashen_propose),
             report: raw::livomashen_report,
+            beyond: Some(Beyond {
+                propose: raw::livomashen_propose,
+                write_slip: raw::livomashen_write_slip,
+                read_slip: raw::livomashen_read_slip,
+            }),
         },
         Codec {
             name: "plain",
@@ -84,8 +107,12 @@ pub fn codecs() -> Vec<Codec> {
             read: plainly::plain_read,
             get: plainly::plain_get,
             patrol: plainly::plain_patrol,
-            propose: Some(plainly::plain_propose),
             report: plainly::plain_report,
+            beyond: Some(Beyond {
+                propose: plainly::plain_propose,
+                write_slip: plainly::plain_write_slip,
+                read_slip: plainly::plain_read_slip,
+            }),
         },
         #[cfg(libfec)]
         Codec {
@@ -94,8 +121,8 @@ pub fn codecs() -> Vec<Codec> {
             read: fec::fec_read,
             get: fec::fec_get,
             patrol: fec::fec_patrol,
-            propose: None,
             report: fec::fec_report,
+            beyond: None,
         },
     ]
 }

@@ -15,6 +15,18 @@ fn code(answer: plain::Answer) -> u32 {
     }
 }
 
+/// The answer of a code; any that has no slip is a refusal.
+fn answer(code: u32) -> plain::Answer {
+    match code.to_le_bytes() {
+        [0, 0, 0, 0] => plain::Answer::Clean,
+        [0, 1, 0, n] => plain::Answer::Chips { n },
+        [0, 2, card, n] => plain::Answer::Card { card, n },
+        [10, 0, 0, 0] => plain::Answer::None,
+        [11, 0, card, 0] => plain::Answer::Several { card },
+        [number, ..] => plain::Answer::Refused(number),
+    }
+}
+
 #[no_mangle]
 #[inline(never)]
 pub unsafe extern "C" fn plain_store(
@@ -131,6 +143,35 @@ pub unsafe extern "C" fn plain_report(
                 | (t.card as u64) << 30
                 | (t.none as u64) << 41
                 | (t.several as u64) << 52
+        }
+    }
+}
+
+#[no_mangle]
+#[inline(never)]
+pub unsafe extern "C" fn plain_write_slip(
+    slips: *mut u8,
+    slips_len: usize,
+    at: usize,
+    k: usize,
+    reading: u32,
+) -> u32 {
+    let slips = unsafe { from_raw_parts_mut(slips, slips_len) };
+    match plain::slips::write(slips, at, k, answer(reading)) {
+        Err(number) => number as u32,
+        Ok(next) => ((next - at) as u32) << 8,
+    }
+}
+
+#[no_mangle]
+#[inline(never)]
+pub unsafe extern "C" fn plain_read_slip(slips: *const u8, slips_len: usize, at: usize) -> u64 {
+    let slips = unsafe { from_raw_parts(slips, slips_len) };
+    match plain::slips::read(slips, at) {
+        Err((15, _)) => 15,
+        Err((number, offset)) => number as u64 | ((offset - at) as u64) << 8,
+        Ok((block, reading, next)) => {
+            ((next - at) as u64) << 8 | (block as u64) << 16 | (code(reading) as u64) << 32
         }
     }
 }

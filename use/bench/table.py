@@ -31,6 +31,8 @@ CASES = {
     "read-none": ("none", None),
     "read-any": ("any damage", (1200, 2700)),
     "propose": ("propose", None),
+    "write-slip": ("write slip", None),
+    "read-slip": ("read slip", None),
     "patrol-1024": ("patrol, 1,024", (390, 390)),
     "report-256": ("report, 256", (300, 300)),
     "report-1024": ("report, 1,024", (300, 300)),
@@ -158,19 +160,19 @@ Nanoseconds for a call:
 
 {times}
 
-- store, read, get, patrol, report, propose: the library's calls. Clean: no byte
-  is bad.
+- store, read, get, patrol, report, propose, write slip, read slip: the
+  library's calls. Clean: no byte is bad.
 - bad chip, bad card: a read with one chip, or all nine chips of one card, bad
   and nothing marked. A star is a mark: a marked card bad and a further chip;
   two marked chips bad. none: a read with chips of two cards bad and nothing
   marked, which no record fits.
 - get and patrol add the positions they change to the window. With a bad chip
   they have the blocks of "bad chip", a read, which adds none. propose: from a
-  full window, nothing marked.
+  full window, nothing marked. Slips are of readings of every kind.
 - any damage: reads of random bytes, cards, chips and damage that fits every
   card, under every shape of lawful marks, so "none" and "several" too. libfec
-  has neither this nor "none", nor proposals; its gets and patrols add to the
-  window as those of plain Rust do.
+  has neither this nor "none", nor proposals and slips; its gets and patrols
+  add to the window as those of plain Rust do.
 - 256 and 1,024: a bank of so many clean blocks, patrolled or reported whole;
   figures are for a block.
 - Instructions are callgrind's, over 64 inputs (8,192 for any damage). Where

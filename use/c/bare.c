@@ -1,7 +1,7 @@
 /*
  * The library with no C library at all: gcc -nostdlib, with a start and a
  * memset of its own.  A card is pulled, the record is got, the bank mended; the
- * same by registers; and a chip that is going is proposed.
+ * same by registers; a chip that is going is proposed; and a slip is written.
  * The exit is 0, or the number of the step that is not as expected.
  */
 #include "livomashen.h"
@@ -75,6 +75,22 @@ static int by_window(const uint8_t *marks)
     return p.number == LIVOMASHEN_DONE && p.chip == 20 ? 0 : 14;
 }
 
+/* A reading goes into a slip, and comes out again: the number of the step, or 0. */
+static int by_slip(const uint8_t *marks)
+{
+    uint8_t slips[LIVOMASHEN_LONGEST_SLIP];
+    livomashen_slip s;
+    uint32_t said;
+    pull_card();
+    said = livomashen_patrol(bank, LENGTH, 2, marks, LIVOMASHEN_MARKS, window);
+    if (livomashen_split_written(livomashen_write_slip(slips, sizeof slips, 0, 2, said),
+                                 0).next != sizeof slips)
+        return 15;
+    s = livomashen_split_slip(livomashen_read_slip(slips, sizeof slips, 0), 0, sizeof slips);
+    return s.number == LIVOMASHEN_DONE && s.block == 2 && s.answer.card == 1
+        && s.answer.n == 9 ? 0 : 16;
+}
+
 int steps(void)
 {
     uint8_t marks[LIVOMASHEN_MARKS] = LIVOMASHEN_FRESH_MARKS;
@@ -109,5 +125,7 @@ int steps(void)
     if (t.number != 0 || t.clean != BLOCKS)
         return 8;
     wrong = by_registers();
-    return wrong != 0 ? wrong : by_window(marks);
+    if (wrong == 0)
+        wrong = by_window(marks);
+    return wrong != 0 ? wrong : by_slip(marks);
 }

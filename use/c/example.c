@@ -19,6 +19,10 @@ static uint8_t window[LIVOMASHEN_WINDOW] = LIVOMASHEN_FRESH_WINDOW;
 static uint8_t *const block = bank + 2 * LIVOMASHEN_BLOCK;
 static const uint8_t record[LIVOMASHEN_RECORD] = "line 7, car 2, talking";
 
+/* What every get said, as slips one behind the other, up to this offset. */
+static uint8_t slips[20 * LIVOMASHEN_LONGEST_SLIP];
+static size_t slips_end = 0;
+
 static int wrong = 0;
 
 static void expect(int holds, const char *what)
@@ -46,12 +50,23 @@ static void print_answer(const char *when, livomashen_answer a)
         printf("card %d, %d bytes changed\n", a.card, a.n);
 }
 
-/* Gets block 2 and says what was found; a record that comes must be ours. */
+static void write_slip(size_t k, uint32_t said)
+{
+    livomashen_written w = livomashen_split_written(
+        livomashen_write_slip(slips, sizeof slips, slips_end, k, said), slips_end);
+    expect(w.number == LIVOMASHEN_DONE, "a slip is written");
+    slips_end = w.next;
+}
+
+/* Gets block 2, says what was found and writes it on a slip; a record that comes
+ * must be ours. */
 static livomashen_answer get(const char *when)
 {
-    livomashen_answer a = livomashen_split_answer(
-        livomashen_get(bank, LENGTH, 2, marks, sizeof marks, out, sizeof out, window));
+    uint32_t said = livomashen_get(bank, LENGTH, 2, marks, sizeof marks, out, sizeof out,
+                                   window);
+    livomashen_answer a = livomashen_split_answer(said);
     print_answer(when, a);
+    write_slip(2, said);
     expect(a.number != LIVOMASHEN_DONE || memcmp(out, record, sizeof record) == 0,
            "the record is back");
     return a;
@@ -118,6 +133,29 @@ static void chip_going(void)
            "chip 31 is marked");
 }
 
+/* The slips as a repairer's tool would read them.  A refusal would tell the
+ * offset of its cause. */
+static int read_slips(void)
+{
+    char when[48];
+    size_t at = 0;
+    int count = 0;
+    while (at < slips_end) {
+        livomashen_slip s = livomashen_split_slip(
+            livomashen_read_slip(slips, slips_end, at), at, slips_end);
+        if (s.number != LIVOMASHEN_DONE) {
+            printf("refused %d at byte %lu\n", s.number, (unsigned long)s.offset);
+            return -1;
+        }
+        snprintf(when, sizeof when, "slip at byte %lu, block %d:", (unsigned long)at,
+                 s.block);
+        print_answer(when, s.answer);
+        at = s.offset;
+        count++;
+    }
+    return count;
+}
+
 int main(void)
 {
     livomashen_answer a;
@@ -154,5 +192,6 @@ int main(void)
            == LIVOMASHEN_MARK_LIMIT, "a third chip mark is refused");
     printf("marks: card %d, count %d, chips %d and %d\n",
            marks[0], marks[1], marks[2], marks[3]);
+    expect(read_slips() == 5, "a slip for each of the five gets");
     return wrong;
 }

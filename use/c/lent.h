@@ -1,8 +1,8 @@
 /*
  * What the checked calls share: lent buffers between guard bytes, document 01's
  * numbers and order 2's window worked out anew, and mark records for the trials.
- * Part of checked.h, checked_registers.h and checked_window.h; inline, since
- * none of them uses all of it.
+ * Part of checked.h, checked_registers.h, checked_window.h and checked_slips.h;
+ * inline, since none of them uses all of it.
  */
 #include "livomashen.h"
 

@@ -14,8 +14,8 @@
  * writes nothing at all.
  *
  * No call allocates, keeps anything between calls, or fails to return: bank,
- * marks, registers and window are the caller's.  Calls on different bytes may
- * run at the same time.
+ * marks, registers, window and slips are the caller's.  Calls on different
+ * bytes may run at the same time.
  *
  * C99 and C++.  See livomashen(3).
  */
@@ -31,9 +31,9 @@ extern "C" {
 
 /* The version: another MAJOR may need changes in a program that uses it. */
 #define LIVOMASHEN_VERSION_MAJOR 2
-#define LIVOMASHEN_VERSION_MINOR 3
-#define LIVOMASHEN_VERSION_PATCH 1
-#define LIVOMASHEN_VERSION "2.3.1"
+#define LIVOMASHEN_VERSION_MINOR 4
+#define LIVOMASHEN_VERSION_PATCH 0
+#define LIVOMASHEN_VERSION "2.4.0"
 
 /* Sizes. */
 enum {
@@ -44,11 +44,13 @@ enum {
     LIVOMASHEN_MARKS = 4,            /* bytes of a mark record */
     LIVOMASHEN_REGISTERS = 12,       /* bytes of the registers */
     LIVOMASHEN_WINDOW = 64,          /* bytes of the window */
+    LIVOMASHEN_LONGEST_SLIP = 6,     /* bytes of a slip, 4 to this many */
     LIVOMASHEN_MOST_BLOCKS = 1024,   /* blocks of the largest bank */
     LIVOMASHEN_LARGEST_BANK = 46080  /* its bytes */
 };
 
-/* Numbers: 0, or why a call is refused.  The lowest that holds is given. */
+/* Numbers: 0, or why a call is refused.  The lowest that holds is given; of 15
+ * and 16 it is the one whose cause comes first in the slice. */
 enum {
     LIVOMASHEN_DONE = 0,
     LIVOMASHEN_BLOCK_LENGTH = 1,     /* received block is not 45 bytes */
@@ -65,7 +67,11 @@ enum {
     LIVOMASHEN_SEVERAL = 11,         /* two records or more fit it */
     LIVOMASHEN_REGISTER_ADDRESS = 12,   /* register's address is above 11 */
     LIVOMASHEN_REGISTER_READ_ONLY = 13, /* writing byte 4, 5 or 8 to 11 */
-    LIVOMASHEN_COMMAND_UNKNOWN = 14     /* writing byte 0: not 1 to 6 */
+    LIVOMASHEN_COMMAND_UNKNOWN = 14,    /* writing byte 0: not 1 to 6 */
+    LIVOMASHEN_SLIP_CUT = 15,        /* slice ends before the slip does */
+    LIVOMASHEN_SLIP_RULES = 16,      /* bit or value that no slip has, read or
+                                        to be written */
+    LIVOMASHEN_SLIP_SPACE = 17       /* no space for the whole slip */
 };
 
 /* Kinds of a corrected block. */
@@ -134,6 +140,17 @@ enum {
     LIVOMASHEN_PENDING_DONE = 1,     /* a command was done */
     LIVOMASHEN_PENDING_REFUSED = 2   /* a command was refused */
 };
+
+/* A slip is one reading of one block: a map byte, then only the fields whose
+ * bits stand in it, in the order of the bits.
+ *     bit 0: block number, two bytes, low first, 0 to 1023
+ *     bit 1: kind, 0 clean, 1 in chips, 2 in a card
+ *     bit 2: card, 0 to 4
+ *     bit 3: n, 1 to 2 in chips, 1 to 11 in a card
+ *     bit 4: refusal, 10 or 11
+ * The only maps are 3 (clean), 11 (in chips), 15 (in a card), 17 (none) and 21
+ * (several), so that a slip is 4, 5, 6, 4 or 5 bytes.  Block 258 with 9 bytes
+ * changed in card 1 is 15, 2, 1, 2, 1, 9. */
 
 /* ------------------------------------------------------------ the library */
 
@@ -218,6 +235,21 @@ uint32_t livomashen_clear_window(uint8_t *window);
 uint32_t livomashen_propose(const uint8_t *window,
                             const uint8_t *marks, size_t marks_len);
 
+/* Writes a slip at this offset of the slice: block k, and what read, get or
+ * patrol said of it, as their answer code.  Any code but that of a corrected
+ * block, of 10 or of 11 is 16, and so is a block number of 1024 or more; but the
+ * 0 of any other call is the code of a clean block too.  Gives a written code: 0
+ * and the slip's length, or 16, 17. */
+uint32_t livomashen_write_slip(uint8_t *slips, size_t slips_len, size_t at,
+                               size_t k, uint32_t answer);
+
+/* Reads the slip that begins at this offset of the slice.  Gives a slip code: 0,
+ * the slip's length and what it says; or 15, 16, and how far after the offset
+ * the cause of 16 stands: at the map, at a block number's high byte, or at the
+ * field that is wrong. */
+uint64_t livomashen_read_slip(const uint8_t *slips, size_t slips_len,
+                              size_t at);
+
 /* ------------------------------------------------------- codes taken apart */
 
 /* What read, get and patrol say, and the last command.  Parts that the number
@@ -252,6 +284,24 @@ typedef struct livomashen_proposal {
     uint8_t chip;     /* bits 8-15: its position, or LIVOMASHEN_NO_CHIP; 0
                          with a refusal */
 } livomashen_proposal;
+
+/* What write_slip says. */
+typedef struct livomashen_written {
+    uint8_t number;   /* bits 0-7: 0, or 16, 17 */
+    size_t next;      /* where the next slip begins: bits 8-15 after the offset
+                         of this one; with a refusal that offset itself */
+} livomashen_written;
+
+/* What read_slip says. */
+typedef struct livomashen_slip {
+    uint8_t number;   /* bits 0-7: 0, or 15, 16 */
+    uint16_t block;   /* bits 16-31: the block number; 0 with a refusal */
+    livomashen_answer answer; /* bits 32-63: what was said of the block; all 0
+                                 with a refusal */
+    size_t offset;    /* where the next slip begins, or with 16 where its cause
+                         stands: bits 8-15 after the offset that was read at;
+                         with 15 the slice's length */
+} livomashen_slip;
 
 static inline livomashen_answer livomashen_split_answer(uint32_t code)
 {
@@ -292,6 +342,38 @@ static inline livomashen_proposal livomashen_split_proposal(uint32_t code)
     p.number = code & 0xFFu;
     p.chip = (code >> 8) & 0xFFu;
     return p;
+}
+
+/* `at` is the offset that the slip was written at. */
+static inline livomashen_written livomashen_split_written(uint32_t code,
+                                                          size_t at)
+{
+    livomashen_written w;
+    w.number = code & 0xFFu;
+    w.next = at + ((code >> 8) & 0xFFu);
+    return w;
+}
+
+/* `at` and `slips_len` are those that the slip was read with. */
+static inline livomashen_slip livomashen_split_slip(uint64_t code, size_t at,
+                                                    size_t slips_len)
+{
+    livomashen_slip s;
+    s.number = code & 0xFFu;
+    s.block = (code >> 16) & 0xFFFFu;
+    s.offset = s.number == LIVOMASHEN_SLIP_CUT ? slips_len
+                                               : at + ((code >> 8) & 0xFFu);
+    code >>= 32;
+    s.answer = livomashen_split_answer(code & 0xFFFFFFFFu);
+    return s;
+}
+
+/* The code of an answer, for write_slip after a get or patrol by command: there
+ * the answer comes from livomashen_last_answer.  After a command that placed or
+ * lifted a mark its kind is LIVOMASHEN_MARKED, which write_slip refuses with 16. */
+static inline uint32_t livomashen_join_answer(livomashen_answer a)
+{
+    return a.number + 0x100u * a.kind + 0x10000u * a.card + 0x1000000u * a.n;
 }
 
 /* What the last command said, from bytes 4 and 5.  Before the first command

@@ -78,6 +78,7 @@ static unsigned below(unsigned limit)
 
 static uint8_t record[100], block[100], out[100], bank[LENGTH], kept[LENGTH];
 static uint8_t marks[4], registers[LIVOMASHEN_REGISTERS], window[LIVOMASHEN_WINDOW];
+static uint8_t slips[3 * LIVOMASHEN_LONGEST_SLIP];
 
 static void fill(uint8_t *at, size_t count)
 {
@@ -129,6 +130,33 @@ static void any_window(void)
             window[at] = (uint8_t)(below(sort) * 7 % 45);
 }
 
+/* A code as read, get and patrol give it; one time in eight with a byte of any. */
+static uint32_t any_answer(void)
+{
+    static const uint32_t shapes[] = { 0, 0x01000100, 0x01000200, 10, 11 };
+    unsigned sort = below(5);
+    uint32_t code = shapes[sort];
+    if (sort == 1)
+        code += below(2) << 24;
+    if (sort == 2)
+        code += below(11) << 24;
+    if (sort == 2 || sort == 4)
+        code += below(5) << 16;
+    return below(8) == 0 ? code ^ (uint32_t)below(256) << 8 * below(4) : code;
+}
+
+/* Slips one behind the other; one time in four with a byte of any. */
+static void any_slips(void)
+{
+    size_t at = 0;
+    int times;
+    for (times = 0; times < 5; times++)
+        at = livomashen_split_written(livomashen_write_slip(
+            slips, sizeof slips, at, below(1024), any_answer()), at).next;
+    if (below(4) == 0)
+        slips[below(sizeof slips)] = (uint8_t)below(256);
+}
+
 /* Damage to a stored block: marked chips, cards, chips, what fits every card,
  * or all of it. */
 static void damage(uint8_t *at)
@@ -155,6 +183,7 @@ static void any_input(void)
     any_marks();
     any_registers();
     any_window();
+    any_slips();
     for (k = 0; k < BLOCKS; k++) {
         fill(record, 34);
         livomashen_store(record, 34, bank + 45 * k, 45);
@@ -166,11 +195,11 @@ static void any_input(void)
 
 /* --------------------------------------------------------------- the calls */
 
-enum { MOST = 16 };
+enum { MOST = 18 };
 static const char *const NAMES[MOST] = {
     "store", "read", "clear", "put", "get", "patrol", "report", "place_chip",
     "lift_chip", "place_card", "lift_card", "write_register", "read_register",
-    "interrupt", "clear_window", "propose"
+    "interrupt", "clear_window", "propose", "write_slip", "read_slip"
 };
 static size_t deepest[MOST];
 
@@ -179,16 +208,17 @@ static uint64_t address(const void *at)
     return (uint64_t)(uintptr_t)at;
 }
 
-/* One call under both paints; bank, marks, registers and window are as before
- * each time. */
+/* One call under both paints; bank, marks, registers, window and slips are as
+ * before each time. */
 static void measure(int call, any_call *function, const uint64_t *arguments)
 {
     uint8_t marks_kept[4], registers_kept[LIVOMASHEN_REGISTERS];
-    uint8_t window_kept[LIVOMASHEN_WINDOW];
+    uint8_t window_kept[LIVOMASHEN_WINDOW], slips_kept[sizeof slips];
     int paint;
     memcpy(marks_kept, marks, sizeof marks);
     memcpy(registers_kept, registers, sizeof registers);
     memcpy(window_kept, window, sizeof window);
+    memcpy(slips_kept, slips, sizeof slips);
     for (paint = 0; paint < 2; paint++) {
         size_t found = taken(function, arguments, paint == 0 ? 0x5A : 0xC3);
         if (found > deepest[call])
@@ -197,6 +227,7 @@ static void measure(int call, any_call *function, const uint64_t *arguments)
         memcpy(marks, marks_kept, sizeof marks);
         memcpy(registers, registers_kept, sizeof registers);
         memcpy(window, window_kept, sizeof window);
+        memcpy(slips, slips_kept, sizeof slips);
     }
 }
 
@@ -204,7 +235,7 @@ static void one_round(void)
 {
     uint64_t r = address(record), b = address(block), o = address(out),
              n = address(bank), m = address(marks), g = address(registers),
-             w = address(window);
+             w = address(window), s = address(slips);
     size_t k = below(BLOCKS + 1), of_bank = below(16) == 0 ? below(LENGTH) : LENGTH;
     size_t of_marks = below(16) == 0 ? below(5) : 4, of_out = length(45);
     size_t of_record = length(34), of_block = length(45);
@@ -212,6 +243,9 @@ static void one_round(void)
     /* Most writes are commands, and half of those a get or a patrol. */
     uint64_t at = below(4) == 0 ? below(14) : LIVOMASHEN_AT_COMMAND;
     uint64_t value = below(2) == 0 ? 1 + below(2) : below(8);
+    /* Half of the slips begin where one does, the others anywhere. */
+    uint64_t of_slips = below(8) == 0 ? below(sizeof slips) : sizeof slips;
+    uint64_t slip = below(2) == 0 ? 0 : below(sizeof slips + 2), number = below(1100);
     const uint64_t lists[MOST][8] = {
         { r, of_record, o, of_out, 0, 0, 0, 0 },
         { b, of_block, m, of_marks, o, of_out, 0, 0 },
@@ -228,7 +262,9 @@ static void one_round(void)
         { g, at, 0, 0, 0, 0, 0, 0 },
         { g, 0, 0, 0, 0, 0, 0, 0 },
         { w, 0, 0, 0, 0, 0, 0, 0 },
-        { w, m, of_marks, 0, 0, 0, 0, 0 }
+        { w, m, of_marks, 0, 0, 0, 0, 0 },
+        { s, of_slips, slip, number, any_answer(), 0, 0, 0 },
+        { s, of_slips, slip, 0, 0, 0, 0, 0 }
     };
     any_call *const calls[MOST] = {
         (any_call *)livomashen_store, (any_call *)livomashen_read,
@@ -238,7 +274,8 @@ static void one_round(void)
         (any_call *)livomashen_lift_chip, (any_call *)livomashen_place_card,
         (any_call *)livomashen_lift_card, (any_call *)livomashen_write_register,
         (any_call *)livomashen_read_register, (any_call *)livomashen_interrupt,
-        (any_call *)livomashen_clear_window, (any_call *)livomashen_propose
+        (any_call *)livomashen_clear_window, (any_call *)livomashen_propose,
+        (any_call *)livomashen_write_slip, (any_call *)livomashen_read_slip
     };
     int call;
     for (call = 0; call < MOST; call++)

@@ -1,9 +1,9 @@
 /*
  * Memory that was never written: a store into it, a put into a bank of it, a
- * clear of it, reads into outputs of it, register writes beside it, and a window
- * made of it.  Run under valgrind's memcheck, which follows every bit that nobody
- * set: a call that looked at the old bytes of its target would hand them on to
- * the reading after it.
+ * clear of it, reads into outputs of it, register writes beside it, a window made
+ * of it, and slips in it.  Run under valgrind's memcheck, which follows every bit
+ * that nobody set: a call that looked at the old bytes of its target would hand
+ * them on to the reading after it.
  *
  * The exit is 0, or the number of the step that is not as expected.
  */
@@ -132,6 +132,36 @@ static int clear_and_propose(void)
     return wrong;
 }
 
+/* A write needs no byte of the slice, and a read those of its slip alone. */
+static int write_and_read_slips(void)
+{
+    static const uint32_t answers[] = { 0, 0x02000100, 0x0B040200, 10, 0x0004000B };
+    enum { COUNT = sizeof answers / sizeof answers[0] };
+    size_t length = COUNT * LIVOMASHEN_LONGEST_SLIP, at = 0, k;
+    uint8_t *slips = unwritten(length);
+    int wrong = 0;
+    for (k = 0; wrong == 0 && k < COUNT; k++) {
+        livomashen_written w = livomashen_split_written(
+            livomashen_write_slip(slips, length, at, 1000 + k, answers[k]), at);
+        livomashen_slip s = livomashen_split_slip(
+            livomashen_read_slip(slips, length, at), at, length);
+        if (w.number != LIVOMASHEN_DONE)
+            wrong = 51;
+        else if (s.number != LIVOMASHEN_DONE || s.block != 1000 + k || s.offset != w.next
+                 || livomashen_join_answer(s.answer) != answers[k])
+            wrong = 52;
+        at = w.next;
+    }
+    /* A map that is none, and behind it nothing was written. */
+    if (wrong == 0) {
+        slips[at] = 7;
+        if (livomashen_read_slip(slips, length, at) != LIVOMASHEN_SLIP_RULES)
+            wrong = 53;
+    }
+    free(slips);
+    return wrong;
+}
+
 int main(void)
 {
     size_t k;
@@ -142,5 +172,7 @@ int main(void)
         wrong = clear_and_report();
     if (wrong == 0)
         wrong = registers_beside();
-    return wrong != 0 ? wrong : clear_and_propose();
+    if (wrong == 0)
+        wrong = clear_and_propose();
+    return wrong != 0 ? wrong : write_and_read_slips();
 }

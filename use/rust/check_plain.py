@@ -16,6 +16,7 @@ sys.path.insert(0, str(Path(__file__).resolve().parents[2] / "second"))
 
 import damage             # noqa: E402
 import reference as ref   # noqa: E402
+import slips              # noqa: E402
 import window             # noqa: E402
 
 FILL = 0xA5               # what plain_cases.rs fills its output with
@@ -95,13 +96,50 @@ def report_case(rng):
     return f"report {word(bank)} {word(marks)}", " ".join(map(str, wanted))
 
 
+def any_reading(rng):
+    """What a call may say of a block, or might if n and card were any."""
+    card, n = (rng.choice((0, 1, 2, 3, 4, 5, 10, 11, 12, 255)) for _ in range(2))
+    return rng.choice((ref.Answer(), ref.Answer(kind=ref.IN_CHIPS, n=n),
+                       ref.Answer(kind=ref.IN_CARD, card=card, n=n),
+                       ref.Answer(ref.NONE), ref.Answer(ref.SEVERAL, card=card),
+                       ref.Answer(rng.randrange(1, 18))))
+
+
+def any_slips(rng):
+    """A run of slips, now and then cut or with a byte of another value, and an
+    offset that is mostly in it."""
+    run = bytearray(rng.randrange(24))
+    at = 0
+    for _ in range(8):
+        at = slips.write(run, at, rng.randrange(1030), any_reading(rng)).offset
+    if run and rng.random() < 0.5:
+        run[rng.randrange(len(run))] = rng.choice((0, 1, 2, 3, 4, 10, 11, 15, 17, 21))
+    at = rng.choice((0, 4, 5, rng.randrange(30)))
+    return run, at if rng.random() < 0.95 else 2 ** 64 - 1 - at
+
+
+def write_slip_case(rng):
+    run, at = any_slips(rng)
+    k, reading = rng.choice((0, 255, 256, 1023, 1024, 65536)), any_reading(rng)
+    line = f"write_slip {word(run)} {at} {k} {told(reading)}"
+    return line, told(slips.write(run, at, k, reading), run)
+
+
+def read_slip_case(rng):
+    run, at = any_slips(rng)
+    number, offset, k, reading = slips.read(run, at)
+    return (f"read_slip {word(run)} {at}",
+            " ".join(map(str, (number, offset, k, *reading))))
+
+
 def cases(rng, count):
     """Each shape of marks with each kind of damage, then any case."""
     for _, _, marks, block in damage.every_pair(rng):
         yield read_case(rng, marks, block)
     for _ in range(count):
         make = rng.choices([store_case, read_case, get_case, patrol_case,
-                            propose_case, report_case], [3, 8, 2, 2, 4, 1])[0]
+                            propose_case, report_case, write_slip_case,
+                            read_slip_case], [3, 8, 2, 2, 4, 1, 2, 4])[0]
         yield make(rng)
 
 

@@ -34,6 +34,9 @@
 //!
 //! [`Registers`] are for a processor that sees the corrector as twelve bytes: it
 //! writes a command, and reads the answer.
+//!
+//! [`write_slip`] keeps what a reading said of a block in 4 to 6 bytes, a slip, and
+//! [`read_slips`] gives a run of them back.
 
 #![allow(dead_code, unused_imports)] // a program may use a part
 
@@ -44,11 +47,14 @@ pub mod raw;
 mod refusal;
 #[path = "livomashen/registers.rs"]
 mod registers;
+#[path = "livomashen/slips.rs"]
+mod slips;
 #[path = "livomashen/window.rs"]
 mod window;
 
 pub use refusal::Refusal;
 pub use registers::{at, command, pending, Registers, Said, REGISTERS};
+pub use slips::{read_slip, read_slips, write_slip, Fault, Slip, Slips, LONGEST_SLIP};
 pub use window::{Window, WINDOW};
 
 pub const CARDS: usize = 5;

@@ -1,10 +1,12 @@
-//! The call memory of document 01 in plain Rust: storing, reading, report; and
-//! get, patrol and proposal with order 2's window.
+//! The call memory of document 01 in plain Rust: storing, reading, report; get,
+//! patrol and proposal with order 2's window; and order 8's slips.
 //!
-//! Written from document 01 for comparison and as the benchmark's baseline.
+//! Written from documents 01 and 02 for comparison and as the benchmark's baseline.
 //! Ordinary tables of powers and logarithms, no proofs; the shipped library
 //! is the proved one.
 
+#[path = "plain/slips.rs"]
+pub mod slips;
 #[path = "plain/window.rs"]
 pub mod window;
 

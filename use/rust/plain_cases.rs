@@ -1,16 +1,17 @@
 //! Runs plain.rs on cases from standard input, one a line, for check_plain.py.
 //!
 //! `store RECORD OUTLEN`, `read BLOCK MARKS OUTLEN`, `report BANK MARKS`,
-//! `get BANK K MARKS OUTLEN WINDOW`, `patrol BANK K MARKS WINDOW` and `propose
-//! WINDOW MARKS`, with bytes in hexadecimal and `-` for an empty slice.  The output
-//! starts as OUTLEN bytes 0xA5.  Prints what was said, then in hexadecimal what may
-//! have been written: output or bank, and window.
+//! `get BANK K MARKS OUTLEN WINDOW`, `patrol BANK K MARKS WINDOW`, `propose WINDOW
+//! MARKS`, `write_slip SLIPS AT K NUMBER KIND CARD N` and `read_slip SLIPS AT`, with
+//! bytes in hexadecimal and `-` for an empty slice.  The output starts as OUTLEN
+//! bytes 0xA5.  Prints what was said, then in hexadecimal what may have been
+//! written: output, bank or slips, and window.
 
 #[allow(dead_code)] // this program uses a part of it
 mod plain;
 
 use plain::window::{self, Window};
-use plain::Answer;
+use plain::{slips, Answer};
 use std::fmt::Write as _;
 use std::io::{self, BufRead, Write as _};
 
@@ -47,6 +48,19 @@ fn said(answer: Answer) -> String {
     }
 }
 
+/// An answer from its four numbers.
+fn answer_in(numbers: [u8; 4]) -> Answer {
+    match numbers {
+        [0, 0, 0, 0] => Answer::Clean,
+        [0, 1, 0, n] => Answer::Chips { n },
+        [0, 2, card, n] => Answer::Card { card, n },
+        [10, 0, 0, 0] => Answer::None,
+        [11, 0, card, 0] => Answer::Several { card },
+        [number, 0, 0, 0] => Answer::Refused(number),
+        _ => panic!("not an answer: {numbers:?}"),
+    }
+}
+
 fn run(words: &[&str]) -> String {
     let number = |word: &str| word.parse().expect("a number");
     let output = |length: &str| vec![0xA5; number(length)];
@@ -75,6 +89,18 @@ fn run(words: &[&str]) -> String {
         ["propose", held, marks] => match window::propose(&window_in(held), &bytes(marks)) {
             Err(number) => format!("{number} 0"),
             Ok(chip) => format!("0 {}", chip.unwrap_or(255)),
+        },
+        ["write_slip", run, at, k, ref answer @ ..] => {
+            let (mut run, at) = (bytes(run), number(at));
+            let parts = answer.iter().map(|part| part.parse().expect("a byte"));
+            let answer = answer_in(parts.collect::<Vec<u8>>().try_into().expect("four"));
+            let written = slips::write(&mut run, at, number(k), answer);
+            let number = written.err().unwrap_or(0);
+            format!("{number} {} {}", written.unwrap_or(at), hex(&run))
+        }
+        ["read_slip", run, at] => match slips::read(&bytes(run), number(at)) {
+            Err((number, offset)) => format!("{number} {offset} 0 0 0 0 0"),
+            Ok((k, answer, next)) => format!("0 {next} {k} {}", said(answer)),
         },
         ["report", bank, marks] => match plain::report(&bytes(bank), &bytes(marks)) {
             Err(number) => format!("{number}"),

@@ -1,6 +1,6 @@
 //! Tests of the library through its Rust wrapper: document 01's worked blocks,
-//! the limits, random damage against plain.rs, order 1's registers and order 2's
-//! window.
+//! the limits, random damage against plain.rs, order 1's registers, order 2's
+//! window and order 8's slips.
 //!
 //! rustc -O --edition 2021 --test -L DIR -l static=livomashen tests.rs
 
@@ -17,6 +17,8 @@ mod damage;
 mod limits;
 #[path = "tests/registers.rs"]
 mod registers;
+#[path = "tests/slips.rs"]
+mod slips;
 #[path = "tests/window.rs"]
 mod window;
 #[path = "tests/worked.rs"]

@@ -3,6 +3,7 @@
 --   coded-one, under-one   two codes of answers that agree
 --   store-code, read-code, clear-code, put-code, get-code, patrol-code, report-code   the exports, each with every lent byte
 --   mark-code           placing and lifting; write-code: a register written; clear-window-code, propose-code: the window's
+--   write-slip-code, read-slip-code   the calls on slips
 --
 -- The other two, a register read and the interrupt, are equations.
 use Prim.Native.Nat.{ℕ, zero, suc}
@@ -21,9 +22,10 @@ use Rattle.registers.specs.Registers.{register-bytes, registers-in}
 use Rattle.registers.specs.Write.{write-cause}
 use Rattle.registers.specs.declared.Registers.{Registers}
 use Rattle.registers.proofs.Decided.{write-decided}
-use Rattle.capi.specs.Codes.{code, proposal-code}
+use Rattle.slip.proofs.Decided.{write-decided as write-slip-decided, read-decided as read-slip-decided}
+use Rattle.capi.specs.Codes.{code, proposal-code, wrote-code, found-code, asked-in}
 use Rattle.capi.specs.Exports.{Coded, CodedUnder, StoreCoded, ReadCoded, ClearCoded, PutCoded, GetCoded, PatrolCoded, ReportCoded, MarkCoded, WriteCoded}
-use Rattle.capi.specs.Exports.{ClearWindowCoded, ProposeCoded}
+use Rattle.capi.specs.Exports.{ClearWindowCoded, ProposeCoded, WriteSlipCoded, ReadSlipCoded}
 
 -- of answers that agree, with what else is the same then
 coded-one : (P Q : Answer → Type 0) (R : Type 0) (c d : ℕ) → ((a b : Answer) → P a → Q b → (a ≡ b) × R) → Coded P c → Coded Q d → (c ≡ d) × R
@@ -92,3 +94,15 @@ module _ (c d : ℕ) where
       bytes : (e f : Answer) (p q : Registers) → p ≡ q → (n : ℕ) → By n e (s ≡ r) (s ≡ register-bytes p) → By n f (s′ ≡ r) (s′ ≡ register-bytes q) → s ≡ s′
       bytes e f p q same zero t o = t ∙ ap register-bytes same ∙ sym o
       bytes e f p q same (suc n) t o = t .1 ∙ sym (o .1)
+
+-- ---- slips
+pub write-slip-code : (s : List ℕ) (i k asked c d : ℕ) (s′ s″ : List ℕ) → WriteSlipCoded s i k asked c s′ → WriteSlipCoded s i k asked d s″
+    → (c ≡ d) × (s′ ≡ s″)
+write-slip-code s i k asked c d s′ s″ w u =
+    let e = write-slip-decided s i k (asked-in asked) (w .wrote) (u .wrote) s′ s″ (w .says) (u .says) in
+    (w .coded ∙ ap (wrote-code i) (e .0) ∙ sym (u .coded), e .1)
+
+pub read-slip-code : (s : List ℕ) (i c d : ℕ) (s′ s″ : List ℕ) → ReadSlipCoded s i c s′ → ReadSlipCoded s i d s″ → (c ≡ d) × (s′ ≡ s″)
+read-slip-code s i c d s′ s″ w u =
+    let e = read-slip-decided s i (w .found) (u .found) s′ s″ (w .says) (u .says) in
+    (w .coded ∙ ap (found-code i) (e .0) ∙ sym (u .coded), e .1)

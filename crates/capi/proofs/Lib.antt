@@ -1,4 +1,5 @@
 pub mod Codes
+pub mod Slips
 pub mod Written
 pub mod Gives
 pub mod Told

@@ -11,7 +11,7 @@ use denote.Triple.Clauses
 use denote.Ref.{now}
 use Rattle.marks.specs.declared.MarkCall.the-variants.{PlaceChip, LiftChip, PlaceCard, LiftCard}
 use Rattle.capi.specs.Exports.{StoreCoded, ReadCoded, ClearCoded, PutCoded, GetCoded, PatrolCoded, ReportCoded, MarkCoded}
-use Rattle.capi.specs.Exports.{WriteCoded, RegisterCoded, InterruptCoded, ClearWindowCoded, ProposeCoded}
+use Rattle.capi.specs.Exports.{WriteCoded, RegisterCoded, InterruptCoded, ClearWindowCoded, ProposeCoded, WriteSlipCoded, ReadSlipCoded}
 use Rattle.capi.proofs.livomashen_store as store
 use Rattle.capi.proofs.livomashen_store.Kinds as store-kinds
 use Rattle.capi.proofs.livomashen_store.Reads as store-reads
@@ -60,6 +60,12 @@ use Rattle.capi.proofs.livomashen_clear_window.Reads as clear-window-re
 use Rattle.capi.proofs.livomashen_propose as propose
 use Rattle.capi.proofs.livomashen_propose.Kinds as propose-kinds
 use Rattle.capi.proofs.livomashen_propose.Reads as propose-reads
+use Rattle.capi.proofs.livomashen_write_slip as write-slip
+use Rattle.capi.proofs.livomashen_write_slip.Kinds as write-slip-kinds
+use Rattle.capi.proofs.livomashen_write_slip.Reads as write-slip-reads
+use Rattle.capi.proofs.livomashen_read_slip as read-slip
+use Rattle.capi.proofs.livomashen_read_slip.Kinds as read-slip-kinds
+use Rattle.capi.proofs.livomashen_read_slip.Reads as read-slip-reads
 
 -- store: record, output
 pub store-tied : (κs : Lifetimes.Lfts 2) (a : World.ArgsD store.signature κs) (r : World.ResD store.signature κs)
@@ -222,3 +228,23 @@ propose-tied κs a r s l = l
 
 pub propose-asks : (κs : Lifetimes.Lfts 2) (a : World.ArgsD propose.signature κs) → propose-reads.Asked κs a
 propose-asks κs a = tt
+
+-- write slip: slips, offset, block number, code of the reading
+pub write-slip-tied : (κs : Lifetimes.Lfts 1) (a : World.ArgsD write-slip.signature κs) (r : World.ResD write-slip.signature κs)
+    (s : Clauses.AtExit (Kinds.endedOf 1 write-slip-kinds.ps write-slip-kinds.r) κs)
+    → write-slip-reads.Learnt κs a r s
+    → WriteSlipCoded (now (a .0)) (a .1 .0) (a .1 .1 .0) (a .1 .1 .1 .0) r (now (s .0))
+write-slip-tied κs a r s l = l
+
+pub write-slip-asks : (κs : Lifetimes.Lfts 1) (a : World.ArgsD write-slip.signature κs) → write-slip-reads.Asked κs a
+write-slip-asks κs a = tt
+
+-- read slip: slips, offset
+pub read-slip-tied : (κs : Lifetimes.Lfts 1) (a : World.ArgsD read-slip.signature κs) (r : World.ResD read-slip.signature κs)
+    (s : Clauses.AtExit (Kinds.endedOf 1 read-slip-kinds.ps read-slip-kinds.r) κs)
+    → read-slip-reads.Learnt κs a r s
+    → ReadSlipCoded (now (a .0)) (a .1 .0) r (now (s .0))
+read-slip-tied κs a r s l = l
+
+pub read-slip-asks : (κs : Lifetimes.Lfts 1) (a : World.ArgsD read-slip.signature κs) → read-slip-reads.Asked κs a
+read-slip-asks κs a = tt

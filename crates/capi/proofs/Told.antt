@@ -7,13 +7,15 @@
 --   clear-window-told  a window cleared; propose-told: the proposal
 --   write-told         a register write, of the registers in the bytes; command-told: a command, by the call's own relation
 --   register-told      the byte that a read gives; interrupt-told: the interrupt
-use Prim.Native.Nat.{ℕ, _<_, _≤_}
-use mathlib.Core.Path.{_≡_, refl, sym, ap, _∙_, subst}
+--   write-slip-told    a slip written, by the offset that the code tells; get-slip-told, patrol-slip-told: of the code that a get or patrol gave
+--   read-slip-told     a slip read; found-one: the parts of a code tell one thing
+use Prim.Native.Nat.{ℕ, _+_, _<_, _≤_}
+use mathlib.Core.Path.{_≡_, refl, sym, ap, ap₂, _∙_, subst}
 use mathlib.Core.Bool.{Bool, true, false}
 use mathlib.Core.Logic.{_⊎_, inl, inr, _↔_}
 use mathlib.Core.List.{List, [], _∷_}
 use native.Mathlib.Omega.{arith}
-use lib.Dec.{ltb}
+use lib.Dec.{ltb, eqb}
 use lib.ListN.{length, getD}
 use Rattle.base.specs.Base.{if, bit}
 use Rattle.answer.specs.Answer.{Answer}
@@ -31,7 +33,7 @@ use Rattle.window.specs.Plain.{ProposedExactly}
 use Rattle.window.specs.declared.Proposal.{Proposal}
 use Rattle.window.specs.declared.Proposal.the-variants.{Chip, Nothing, Refused as RefusedWith}
 use Rattle.window.proofs.Proposed.{proposed-exactly}
-use Rattle.bank.specs.Calls.{ClearDone, PutDone, GetDone, PatrolDone, ReportDone}
+use Rattle.bank.specs.Calls.{ClearDone, PutDone, GetDone, PatrolDone, ReportDone, get-cause, patrol-cause}
 use Rattle.bank.proofs.Gives.{clear-gives, put-gives, get-gives, patrol-gives, report-gives}
 use Rattle.registers.specs.Registers.{registers-in, is-set, raised}
 use Rattle.registers.specs.Write.{command-of, Runs, write-cause, WriteDone, read-value}
@@ -40,12 +42,22 @@ use Rattle.registers.specs.declared.Value.the-variants.{Byte, Refused}
 use Rattle.registers.proofs.Plain.{raised-exactly, bytes-back}
 use Rattle.registers.proofs.Leaves.{commands-leave}
 use Rattle.registers.proofs.Formed.{write-gives}
+use Rattle.reading.specs.declared.Reading.{Reading}
+use Rattle.slip.specs.Slip.{HasSlip}
+use Rattle.slip.specs.Calls.{WriteSlipDone, ReadSlipDone}
+use Rattle.slip.specs.declared.Found.{Found}
+use Rattle.slip.specs.declared.Found.the-variants.{Slip, Refused as RefusedAt}
+use Rattle.slip.proofs.Fit.{write-fits, read-fits}
+use Rattle.slip.proofs.Decided.{reading-one}
+use Rattle.slip.proofs.Readings.{get-has-slip, patrol-has-slip}
 use Rattle.capi.specs.Codes.{code, value-code, proposal-code, outcome-in, reading-in, report-in, value-in, proposal-in}
+use Rattle.capi.specs.Codes.{wrote-in, FoundIn, length-in, asked-in}
 use Rattle.capi.specs.Exports.{Coded, CodedUnder, StoreCoded, ReadCoded, ClearCoded, PutCoded, GetCoded, PatrolCoded, ReportCoded, Marked, MarkCoded}
-use Rattle.capi.specs.Exports.{WriteCoded, RegisterCoded, InterruptCoded, ClearWindowCoded, ProposeCoded}
+use Rattle.capi.specs.Exports.{WriteCoded, RegisterCoded, InterruptCoded, ClearWindowCoded, ProposeCoded, WriteSlipCoded, ReadSlipCoded}
 use Rattle.capi.proofs.Gives.{store-gives, read-gives, mark-gives}
 use Rattle.capi.proofs.Codes.{ValueFits, value-back, ProposalFits, proposal-back, outcome-back, reading-back, report-back}
 use Rattle.capi.proofs.Written.{accepted, marked-done, write-done}
+use Rattle.capi.proofs.Slips.{asked-back, wrote-back, found-back}
 
 pub record Told (Says : Answer → Type 0) (f : ℕ → Answer) (c : ℕ) : Type 0 where
   pub says : Says (f c)
@@ -171,3 +183,58 @@ interrupt-told b c b′ (e, k) = (there, λ w. e ∙ ap bit (raised-exactly (reg
 
     there : c ≡ 1 → (i : ℕ) × (i < 8) × (is-set i (getD b 6 0) ≡ true) × (is-set i (getD b 7 0) ≡ true)
     there z = raised-exactly (registers-in b) .0 (was (raised (registers-in b)) (sym e ∙ z))
+
+-- ---- slips
+pub write-slip-told : (s : List ℕ) (i k asked c : ℕ) (s′ : List ℕ) → WriteSlipCoded s i k asked c s′ → WriteSlipDone s i k (asked-in asked) (wrote-in i c) s′
+write-slip-told s i k asked c s′ w =
+    subst (λ x. WriteSlipDone s i k (asked-in asked) x s′)
+    (sym (ap (wrote-in i) (w .coded) ∙ wrote-back i (w .wrote) (write-fits s i k (asked-in asked) (w .wrote) s′ (w .says)))) (w .says)
+
+-- the code of an outcome that has a slip is asked for as it came
+given : (s : List ℕ) (i k : ℕ) (a : Answer) (c : ℕ) (s′ : List ℕ) → HasSlip k a → WriteSlipCoded s i k (code a) c s′ → WriteSlipDone s i k a (wrote-in i c) s′
+given s i k a c s′ h w = subst (λ (x : Answer). WriteSlipDone s i k x (wrote-in i c) s′) (asked-back k a h) (write-slip-told s i k (code a) c s′ w)
+
+-- a get or patrol that its arguments don't refuse gave the code c, which is handed to the writer: it writes what c tells, and doesn't refuse it
+-- with 16
+pub get-slip-told : (bank : List ℕ) (k : ℕ) (m out win : List ℕ) (c : ℕ) (bank′ m′ out′ win′ : List ℕ) → GetCoded bank k m out win c bank′ m′ out′ win′
+    → get-cause (length bank) k (marks-in m) (length out) ≡ 0 → (s : List ℕ) (i d : ℕ) (s′ : List ℕ) → WriteSlipCoded s i k c d s′
+    → HasSlip k (reading-in c) × WriteSlipDone s i k (reading-in c) (wrote-in i d) s′
+get-slip-told bank k m out win c bank′ m′ out′ win′ w z s i d s′ u =
+    let t = get-told bank k m out win c bank′ m′ out′ win′ w .0 in
+    let h = get-has-slip bank k (marks-in m) out win (reading-in c) bank′ out′ win′ z (t .says) in
+    (h, given s i k (reading-in c) d s′ h (subst (λ (x : ℕ). WriteSlipCoded s i k x d s′) (t .coded) u))
+
+pub patrol-slip-told : (bank : List ℕ) (k : ℕ) (m win : List ℕ) (c : ℕ) (bank′ m′ win′ : List ℕ) → PatrolCoded bank k m win c bank′ m′ win′
+    → patrol-cause (length bank) k (marks-in m) ≡ 0 → (s : List ℕ) (i d : ℕ) (s′ : List ℕ) → WriteSlipCoded s i k c d s′
+    → HasSlip k (reading-in c) × WriteSlipDone s i k (reading-in c) (wrote-in i d) s′
+patrol-slip-told bank k m win c bank′ m′ win′ w z s i d s′ u =
+    let t = patrol-told bank k m win c bank′ m′ win′ w .0 in
+    let h = patrol-has-slip bank k (marks-in m) win (reading-in c) bank′ win′ z (t .says) in
+    (h, given s i k (reading-in c) d s′ h (subst (λ (x : ℕ). WriteSlipCoded s i k x d s′) (t .coded) u))
+
+-- what the parts of the code tell is what was found, and no other; with 15 the offset is the slice's length
+pub read-slip-told : (s : List ℕ) (i c : ℕ) (s′ : List ℕ) → ReadSlipCoded s i c s′
+    → (f : Found) × FoundIn i (length s) c f × ReadSlipDone s i f s′
+unfolding ReadSlipDone
+read-slip-told s i c s′ w = (
+  w .found,
+  subst (λ (x : ℕ). FoundIn i (length s) x (w .found)) (sym (w .coded))
+      (found-back i (length s) (w .found) (read-fits s i (w .found) s′ (w .says)) at-end),
+  w .says,
+)
+  where
+    cut-there : (p : ℕ) → ReadSlipDone s i (RefusedAt 15 p) s′ → p ≡ length s
+    cut-there p (inl (e, g), z) = g .0
+    cut-there p (inr (e, g), z) = absurd (omega (arith, e))
+
+    at-end : (p : ℕ) → w .found ≡ RefusedAt 15 p → p ≡ length s
+    at-end p e = cut-there p (subst (λ (f : Found). ReadSlipDone s i f s′) e (w .says))
+
+pub found-one : (i l c : ℕ) (f g : Found) → FoundIn i l c f → FoundIn i l c g → f ≡ g
+found-one i l c (Slip k r n) (Slip k′ r′ n′) (z, a, b, e) (z′, a′, b′, e′) =
+    ap₂ (λ (x : ℕ) (y : Reading). Slip x y n) (a ∙ sym a′) (reading-one r r′ (b ∙ sym b′)) ∙ ap (Slip k′ r′) (e ∙ sym e′)
+found-one i l c (Slip k r n) (RefusedAt m p) (z, a, b, q) (z′, h, e) = absurd (h (sym z′ ∙ z))
+found-one i l c (RefusedAt m p) (Slip k r n) (z, h, e) (z′, a, b, q) = absurd (h (sym z ∙ z′))
+found-one i l c (RefusedAt m p) (RefusedAt m′ p′) (z, h, e) (z′, h′, e′) =
+    let q = sym z ∙ z′ in
+    ap₂ RefusedAt q (e ∙ ap (λ (x : ℕ). if (eqb x 15) l (i + length-in c)) q ∙ sym e′)

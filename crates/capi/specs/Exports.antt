@@ -6,6 +6,7 @@
 --   MarkCoded                placing and lifting, in the bytes themselves
 --   ClearWindowCoded         a window cleared; ProposeCoded: the proposal, under the mark record in the bytes
 --   WriteCoded               a register written, in the twelve bytes themselves; RegisterCoded: one read; InterruptCoded: the interrupt
+--   WriteSlipCoded           a slip written, of the reading that is asked for by its code; ReadSlipCoded: one read
 --
 -- A primed name is what the bytes hold after the call.
 use mathlib.Core.Path.{_≡_}
@@ -25,7 +26,10 @@ use Rattle.window.specs.declared.Proposal.{Proposal}
 use Rattle.registers.specs.Registers.{register-bytes, registers-in, raised}
 use Rattle.registers.specs.Write.{write-cause, WriteDone, read-value}
 use Rattle.registers.specs.declared.Registers.{Registers}
-use Rattle.capi.specs.Codes.{code, value-code, proposal-code}
+use Rattle.slip.specs.Calls.{WriteSlipDone, ReadSlipDone}
+use Rattle.slip.specs.declared.Wrote.{Wrote}
+use Rattle.slip.specs.declared.Found.{Found}
+use Rattle.capi.specs.Codes.{code, value-code, proposal-code, wrote-code, found-code, asked-in}
 
 pub record Coded (Says : Answer → Type 0) (c : ℕ) : Type 0 where
   pub answer : Answer
@@ -92,3 +96,14 @@ RegisterCoded b a c b′ = (c ≡ value-code (read-value (registers-in b) a)) ×
 -- 1 while it is raised, else 0
 abbrev pub InterruptCoded : List ℕ → ℕ → List ℕ → Type 0
 InterruptCoded b c b′ = (c ≡ bit (raised (registers-in b))) × (b′ ≡ b)
+
+-- ---- slips: s is the slice, i the offset
+pub record WriteSlipCoded (s : List ℕ) (i k asked c : ℕ) (s′ : List ℕ) : Type 0 where
+  pub wrote : Wrote
+  pub says : WriteSlipDone s i k (asked-in asked) wrote s′
+  pub coded : c ≡ wrote-code i wrote
+
+pub record ReadSlipCoded (s : List ℕ) (i c : ℕ) (s′ : List ℕ) : Type 0 where
+  pub found : Found
+  pub says : ReadSlipDone s i found s′
+  pub coded : c ≡ found-code i found

@@ -5,7 +5,7 @@
 mod encode;
 
 ghost use Rattle.capi.specs.Exports.{StoreCoded, ReadCoded, ClearCoded, PutCoded, GetCoded, PatrolCoded, ReportCoded, MarkCoded};
-ghost use Rattle.capi.specs.Exports.{WriteCoded, RegisterCoded, InterruptCoded, ClearWindowCoded, ProposeCoded};
+ghost use Rattle.capi.specs.Exports.{WriteCoded, RegisterCoded, InterruptCoded, ClearWindowCoded, ProposeCoded, WriteSlipCoded, ReadSlipCoded};
 ghost use Rattle.marks.specs.declared.MarkCall.the-variants.{PlaceChip, LiftChip, PlaceCard, LiftCard};
 use marks::MarkCall;
 
@@ -169,4 +169,24 @@ pub extern "C" fn livomashen_propose(w: &[u8; 64], m: &[u8]) -> u32
     ensures { λ c. ⌜ ProposeCoded (now (w .entry)) (now (m .entry)) c (now (w .exit)) (now (m .exit)) ⌝ }
 {
     encode::of_proposal(window::propose(w, marks::from_slice(m)))
+}
+
+// Writes the slip of block k at an offset, by the code that a reading of it gave. A number that is no reading's code has no slip: 16.
+#[no_mangle]
+pub extern "C" fn livomashen_write_slip(slips: &mut [u8], at: usize, k: usize, answer: u32) -> u32
+    ensures { λ c. ⌜ WriteSlipCoded (now (slips .entry)) at k answer c (now (slips .exit)) ⌝ }
+{
+    let r = encode::reading_in(answer);
+    if encode::of_reading(r) != answer {
+        return 16;
+    }
+    encode::of_wrote(at, slip::write(slips, at, k, r))
+}
+
+// Reads the slip at an offset.
+#[no_mangle]
+pub extern "C" fn livomashen_read_slip(slips: &[u8], at: usize) -> u64
+    ensures { λ c. ⌜ ReadSlipCoded (now (slips .entry)) at c (now (slips .exit)) ⌝ }
+{
+    encode::of_found(at, slip::read(slips, at))
 }

@@ -60,4 +60,12 @@ unsafe extern "C" {
     pub fn livomashen_interrupt(registers: *const u8) -> u32;
     pub fn livomashen_clear_window(window: *mut u8) -> u32;
     pub fn livomashen_propose(window: *const u8, marks: *const u8, marks_len: usize) -> u32;
+    pub fn livomashen_write_slip(
+        slips: *mut u8,
+        slips_len: usize,
+        at: usize,
+        k: usize,
+        answer: u32,
+    ) -> u32;
+    pub fn livomashen_read_slip(slips: *const u8, slips_len: usize, at: usize) -> u64;
 }

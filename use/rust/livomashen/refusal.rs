@@ -35,10 +35,16 @@ pub enum Refusal {
     RegisterReadOnly,
     /// There is no command of this number.
     CommandUnknown,
+    /// The slice ends before the slip does.
+    SlipCut,
+    /// A bit or value that no slip has, read or to be written.
+    SlipRules,
+    /// There is no space for the whole slip.
+    SlipSpace,
 }
 
 impl Refusal {
-    /// The refusal's number, 1 to 14.
+    /// The refusal's number, 1 to 17.
     pub fn number(self) -> u8 {
         match self {
             Refusal::BlockLength => 1,
@@ -55,6 +61,9 @@ impl Refusal {
             Refusal::RegisterAddress => 12,
             Refusal::RegisterReadOnly => 13,
             Refusal::CommandUnknown => 14,
+            Refusal::SlipCut => 15,
+            Refusal::SlipRules => 16,
+            Refusal::SlipSpace => 17,
         }
     }
 
@@ -74,6 +83,9 @@ impl Refusal {
             12 => Refusal::RegisterAddress,
             13 => Refusal::RegisterReadOnly,
             14 => Refusal::CommandUnknown,
+            15 => Refusal::SlipCut,
+            16 => Refusal::SlipRules,
+            17 => Refusal::SlipSpace,
             _ => return None,
         })
     }
@@ -109,6 +121,9 @@ impl fmt::Display for Refusal {
             Refusal::RegisterAddress => "there is no register of this address",
             Refusal::RegisterReadOnly => "this register is not written",
             Refusal::CommandUnknown => "there is no command of this number",
+            Refusal::SlipCut => "the slice ends before the slip does",
+            Refusal::SlipRules => "a bit or value that no slip has",
+            Refusal::SlipSpace => "there is no space for the whole slip",
         };
         f.write_str(words)
     }

@@ -127,6 +127,10 @@ fn empty_slices() {
     assert_eq!(livomashen::place_card(&mut [], 0), Err(Refusal::MarkRange));
     assert_eq!(livomashen::lift_card(&mut []), Err(Refusal::MarkRange));
     assert_eq!(window.propose(&[]), Err(Refusal::MarkRange));
+    let written = livomashen::write_slip(&mut [], 0, 0, Ok(Corrected::Clean));
+    assert_eq!(written, Err(Refusal::SlipSpace));
+    let read = livomashen::read_slip(&[], 0).map_err(|fault| fault.refusal);
+    assert_eq!(read, Err(Refusal::SlipCut));
 }
 
 #[test]

@@ -1,7 +1,7 @@
-//! A record is put into a bank, card 1 is pulled, and the record is got again.  Then
-//! a chip is going, and is proposed.
+//! A record is put into a bank, card 1 is pulled, and the record is got again, which
+//! a slip keeps.  Then a chip is going, and is proposed.
 
-use livomashen::{Corrected, Refusal, Window, BLOCK, FRESH, RECORD};
+use livomashen::{Corrected, Refusal, Slip, Window, BLOCK, FRESH, LONGEST_SLIP, RECORD};
 
 fn main() -> Result<(), Refusal> {
     let mut bank = [0; 4 * BLOCK];
@@ -15,6 +15,14 @@ fn main() -> Result<(), Refusal> {
     let said = livomashen::get(&bank, 2, &FRESH, &mut out, &mut window);
     assert_eq!(said, Ok(Corrected::Card { card: 1, n: 9 }));
     assert_eq!(livomashen::record_of(&out, &said), record);
+
+    let mut slips = [0; LONGEST_SLIP];
+    let end = livomashen::write_slip(&mut slips, 0, 2, said)?;
+    let slip = Slip {
+        block: 2,
+        reading: said,
+    };
+    assert!(livomashen::read_slips(&slips[..end]).eq([Ok(slip)]));
 
     livomashen::patrol(&mut bank, 2, &FRESH, &mut window)?;
     let totals = livomashen::report(&bank, &FRESH)?;

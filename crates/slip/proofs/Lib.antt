@@ -1,0 +1,12 @@
+pub mod Stores
+pub mod Within
+pub mod Shape
+pub mod Follows
+pub mod Fit
+pub mod Writing
+pub mod Judging
+pub mod Decided
+pub mod Plain
+pub mod Runs
+pub mod Readings
+pub mod Tied
