@@ -73,6 +73,11 @@ def run(registers, command, bank, output, window):
     return answer
 
 
+def refusal_in(registers):
+    """The number that byte 4 tells: 0 where the last command was done."""
+    return max(0, registers[LAST] - REFUSED)
+
+
 def last_answer(command, answer):
     """Byte 4 after a command."""
     if answer.number:

@@ -48,7 +48,7 @@ class Misplaced:
     def _number(self, said, arguments):
         if not self.by_command:
             return said.number
-        return max(0, arguments[0][registers.LAST] - registers.REFUSED)
+        return registers.refusal_in(arguments[0])
 
 
 def there(kind, before, asked, number):

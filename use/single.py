@@ -93,7 +93,8 @@ def lent(argument):
 
 
 def compare_call(lib, name, *arguments):
-    """One call on bytes of its own: the answer, and every byte after it."""
+    """One call on bytes of its own: the answer, and every byte after it; gives the
+    library's, the answer and then its arguments."""
     ours = [lent(argument) for argument in arguments]
     theirs = [lent(argument) for argument in arguments]
     said = lib.call(name, *ours)
@@ -108,6 +109,7 @@ def compare_call(lib, name, *arguments):
         shown = [argument.hex() if isinstance(argument, bytes) else argument
                  for argument in arguments]
         raise Difference(f"{name} {shown}: {difference}") from None
+    return said, *ours
 
 
 # ------------------------------------------------------- lengths and numbers

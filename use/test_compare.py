@@ -100,11 +100,13 @@ class Compare(WithFaults):
                        "--from-list", 10, "--entries", 20)
         self.assertEqual(done.returncode, 0, done.stdout)
         found = re.search(r"agree: seed 5, (\d+) calls of every length and address, "
-                          r"(\d+) calls on slips, 3 lists, (\d+) entries", done.stdout)
+                          r"(\d+) calls on slips, (\d+) calls on two bad chips, "
+                          r"3 lists, (\d+) entries", done.stdout)
         self.assertGreater(int(found[1]), 20_000)
         self.assertGreater(int(found[2]), 1_000_000)
-        self.assertLess(60 - 1, int(found[3]))
-        self.assertLess(int(found[3]), 3 * (20 + 45))
+        self.assertGreater(int(found[3]), 40_000)
+        self.assertLess(60 - 1, int(found[4]))
+        self.assertLess(int(found[4]), 3 * (20 + 45))
 
     @needs("gcc", "objcopy", "ar")
     def test_a_fault_is_found_and_the_list_is_short(self):
@@ -136,10 +138,11 @@ class Compare(WithFaults):
         self.assertIn("none.a is not there", done.stderr)
 
     def main_of(self, *options):
-        """The exit and what is printed, with no slips compared."""
+        """The exit and what is printed, with no slips and no two bad chips compared."""
         words = ["compare", "--library", str(ARCHIVE), *map(str, options)]
         with mock.patch.object(sys, "argv", words), \
                 mock.patch.object(comparison, "slip_calls", return_value=0), \
+                mock.patch.object(comparison, "two_chip_calls", return_value=0), \
                 contextlib.redirect_stdout(io.StringIO()) as said:
             try:
                 comparison.main()

@@ -15,13 +15,13 @@ use lib.Seq.{getD-set-same, getD-set-other}
 use borrow.Author.Tests.{eq-eqb}
 use Rattle.base.specs.Base.{if}
 use Rattle.base.proofs.Tests.{same}
-use Rattle.answer.specs.Answer.{Answer, done}
+use Rattle.answer.specs.Answer.{Answer}
 use Rattle.answer.proofs.Causes.{by-accepted}
 use Rattle.marks.specs.Marks.{LawfulMarks, fresh-marks}
-use Rattle.code.specs.Block.{byte, zeros, OneMember, Stored}
+use Rattle.code.specs.Block.{byte, zeros, Stored}
 use Rattle.code.specs.Labels.{built-in}
 use Rattle.reading.specs.Allowed.{ChipKind}
-use Rattle.bank.specs.Calls.{put-cause, get-cause}
+use Rattle.bank.specs.Calls.{get-cause}
 use Rattle.bank.proofs.Accepted.{accepts}
 use Rattle.registers.specs.Registers.{fresh-registers}
 use Rattle.registers.specs.Write.{command-of, stored}
@@ -29,10 +29,11 @@ use Rattle.registers.specs.declared.Registers.{Registers}
 use Rattle.registers.specs.declared.Command.the-variants.{Get}
 use Rattle.registers.proofs.Writes.{plain-0}
 use Rattle.book.specs.Book.{put, get, Entry, call, write, hit, says, Seen, State, fresh-state, Ran}
-use Rattle.book.specs.Book.{Book, fresh-book, size, registers-of, marks-of, held-at, with-both, with-held, with-front, Booked, Step}
+use Rattle.book.specs.Book.{Book, fresh-book, registers-of, marks-of, held-at, with-both, with-held, with-front, Booked, Step}
 use Rattle.book.specs.Kept.{good-at, last-put, DamageAllowed, DamageOfChipKind, by-call, by-command, Corrected, Answers, GivesRecord}
 use Rattle.book.specs.Kept.{OneHit, OneHitByCommand}
 use Rattle.book.proofs.Whole.{whole}
+use Rattle.book.proofs.Hits.{puts, put-from}
 use Rattle.book.proofs.Calls.{calls-give-last-put}
 
 pub one-byte : (b : List ℕ) (i x : ℕ) → ChipKind [] (set b i x) b
@@ -50,25 +51,15 @@ abbrev pub after : ℕ → ℕ → List ℕ → ℕ → ℕ → Book
 after n k good i x = with-held (with-both (fresh-book n) k good) k (set good i x)
 
 module _ (n k : ℕ) (hi : n ≤ 1024) (hk : k < n) (rec : List ℕ) (lr : length rec ≡ 34) where
-  puts : put-cause (45 * n) k (length rec) ≡ 0
-  puts = accepts (45 * n) k (length rec) 45 fresh-marks .put .1 ((n, omega arith, hi, refl), omega arith, lr)
-
-  -- what the book says of the put
   pub put-done : (s : Seen) (b : Book) → Step (fresh-book n) (call (put k rec)) s b
       → (good : List ℕ) × Stored built-in rec good × (b ≡ with-both (fresh-book n) k good)
-  put-done s b w =
-      let a = w .says .0 in
-      let z : put-cause (size (fresh-book n)) k (length rec) ≡ 0 = ap (λ (l : ℕ). put-cause (45 * l) k (length rec)) (length-replicate n zeros) ∙ puts in
-      let d = by-accepted _ a (b ≡ fresh-book n)
-      ((a ≡ done) × ((y : List ℕ) × OneMember (Stored built-in rec) y × (b ≡ with-both (fresh-book n) k y))) z (w .says .2 .1) in
-      (d .1 .0, d .1 .1 .0, d .1 .2)
+  put-done s b w = put-from n k hi hk rec lr (fresh-book n) (length-replicate n zeros) s b w
 
   -- the record last put is this one, whatever follows that puts none
-  pub last-is : (es : List Entry) → ((r : List ℕ) → last-put n k r es ≡ r) → last-put n k (replicate 34 0) (call (put k rec) ∷ es) ≡ rec
+  pub last-is : (es : List Entry) → ((r : List ℕ) → last-put n k r es ≡ r) → (r : List ℕ) → last-put n k r (call (put k rec) ∷ es) ≡ rec
   unfolding last-put
-  last-is es keeps =
-      keeps _ ∙ ap (λ (t : Bool). if (t && eqb k k) rec (replicate 34 0)) (eq-eqb _ 0 puts)
-      ∙ ap (λ (t : Bool). if t rec (replicate 34 0)) (eq-eqb k k refl)
+  last-is es keeps r =
+      keeps _ ∙ ap (λ (t : Bool). if (t && eqb k k) rec r) (eq-eqb _ 0 (puts n k hi hk rec lr)) ∙ ap (λ (t : Bool). if t rec r) (eq-eqb k k refl)
 
 module _ (n k : ℕ) (hi : n ≤ 1024) (hk : k < n) (rec out : List ℕ) (lr : length rec ≡ 34) (lq : length out ≡ 45) (i x : ℕ) (h : i < 45) where
   pub gets : get-cause (45 * n) k fresh-marks (length out) ≡ 0
@@ -102,7 +93,7 @@ module _ (n k : ℕ) (hi : n ≤ 1024) (hk : k < n) (rec out : List ℕ) (lr : l
   -- the record last put is this one
   last : last-put n k (replicate 34 0) (call (put k rec) ∷ hit (45 * k + i) x ∷ []) ≡ rec
   unfolding last-put
-  last = last-is n k hi hk rec lr (hit (45 * k + i) x ∷ []) (λ r. refl)
+  last = last-is n k hi hk rec lr (hit (45 * k + i) x ∷ []) (λ r. refl) (replicate 34 0)
 
   abbrev list : List Entry
   list = call (put k rec) ∷ hit (45 * k + i) x ∷ []

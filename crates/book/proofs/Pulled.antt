@@ -34,7 +34,7 @@ use Rattle.reading.proofs.Beside.{u-on}
 use Rattle.bank.specs.Calls.{get-cause}
 use Rattle.bank.proofs.Accepted.{accepts}
 use Rattle.book.specs.Book.{put, get, mark, Entry, call, hit, write, says, Seen}
-use Rattle.book.specs.Book.{Book, fresh-book, marks-of, held-at, with-both, with-held, with-marks, Booked, Step}
+use Rattle.book.specs.Book.{Book, fresh-book, marks-of, held-at, with-both, with-marks, Booked, Step}
 use Rattle.book.specs.Kept.{good-at, last-put, DamageAllowed, by-call, Corrected, GivesRecord}
 use Rattle.book.specs.Possible.{AllPossible}
 use Rattle.book.specs.Pulled.{HitsOn, pulled, CardPulled, all-hit, CanBePulled}
@@ -42,32 +42,21 @@ use Rattle.book.proofs.Whole.{whole}
 use Rattle.book.proofs.Runs.{any-list}
 use Rattle.book.proofs.Record.{gets-last-put}
 use Rattle.book.proofs.Calls.{last}
+use Rattle.book.proofs.Hits.{Holds, hit-holds}
 use Rattle.book.proofs.OneHit.{fresh-lawful, put-done, last-is}
 
 -- ---- hits
 module _ (n k : ℕ) (hk : k < n) (m : Marks) (good : List ℕ) (P : ℕ → Type 0) where
-  record Held (b : Book) : Type 0 where
-    many : length (b .held) ≡ n
-    marks : marks-of b ≡ m
-    kept : good-at b k ≡ good
-    only : DifferOnly P (held-at b k) good
+  abbrev Held : Book → Type 0
+  Held b = (now : List ℕ) × Holds n k m good now b × DifferOnly P now good
 
   after-hit : (b b′ : Book) (i x : ℕ) (s : Seen) → i / 45 ≡ k → P (i % 45) → Step b (hit i x) s b′ → Held b → Held b′
-  after-hit b b′ i x s e at w h = subst Held (sym (w .says .2)) (record {
-    many = length-set (b .held) (i / 45) _ ∙ h .many;
-    marks = h .marks;
-    kept = h .kept;
-    only = λ q l. subst (λ (y : List ℕ). (byte y q ≡ byte good q) ⊎ P q) (sym there) (each q l (same q (i % 45)));
-  })
+  after-hit b b′ i x s e at w (now, h, only) =
+      (set now (i % 45) x, hit-holds n k hk m good now i x e b h s b′ w, λ q l. each q l (same q (i % 45)))
     where
-      there : held-at (with-held b (i / 45) (set (held-at b (i / 45)) (i % 45) x)) k ≡ set (held-at b k) (i % 45) x
-      there =
-          ap (λ (c : ℕ). held-at (with-held b c (set (held-at b c) (i % 45) x)) k) e
-          ∙ getD-set-same (b .held) k (set (held-at b k) (i % 45) x) [] (omega (arith, hk, h .many))
-
-      each : (q : ℕ) → q < 45 → (q ≡ i % 45) ⊎ (q ≢ i % 45) → (byte (set (held-at b k) (i % 45) x) q ≡ byte good q) ⊎ P q
+      each : (q : ℕ) → q < 45 → (q ≡ i % 45) ⊎ (q ≢ i % 45) → (byte (set now (i % 45) x) q ≡ byte good q) ⊎ P q
       each q l (inl z) = inr (subst P (sym z) at)
-      each q l (inr z) = subst (λ (v : ℕ). (v ≡ byte good q) ⊎ P q) (sym (getD-set-other (held-at b k) (i % 45) q x 0 z)) (h .only q l)
+      each q l (inr z) = subst (λ (v : ℕ). (v ≡ byte good q) ⊎ P q) (sym (getD-set-other now (i % 45) q x 0 z)) (only q l)
 
   ended : (ss : List Seen) {b b′ : Book} → Booked b [] ss b′ → b ≡ b′
   ended [] Booked.end = refl
@@ -110,13 +99,12 @@ module _ (n k : ℕ) (hi : n ≤ 1024) (hk : k < n) (rec : List ℕ) (lr : lengt
     where
       start : (good : List ℕ) (P : ℕ → Type 0) → Held n k hk (both p) good P (with-marks (with-both (fresh-book n) k good) (both p))
       start good P =
-          let same-block : held-at (with-both (fresh-book n) k good) k ≡ good = getD-set-same (replicate n zeros) k good []
-          (omega (arith, hk, length-replicate n zeros)) in record {
-            many = length-set (replicate n zeros) k good ∙ length-replicate n zeros;
-            marks = refl;
-            kept = same-block;
-            only = λ q l. inl (ap (λ (y : List ℕ). byte y q) same-block);
-          }
+          let there : held-at (with-both (fresh-book n) k good) k ≡ good = getD-set-same (replicate n zeros) k good []
+          (omega (arith, hk, length-replicate n zeros)) in (
+            good,
+            record { many = length-set (replicate n zeros) k good ∙ length-replicate n zeros; marks = refl; kept = there; held = there },
+            λ q l. inl refl,
+          )
 
 -- hits put no record
 hits-keep : (n k j i x : ℕ) (hits : List Entry) → HitsOn k j hits → (r : List ℕ) → last-put n k r (hits ++ (hit i x ∷ [])) ≡ r
@@ -158,13 +146,14 @@ card-pulled n k hi hk rec out lr lq p hp hits on i x h ss s r =
     allowed : (good : List ℕ) (b : Book) → Held n k hk (both p) good Where b → DamageAllowed b k
     allowed good b f =
         let enough = subst (λ (c : ℕ). 1 ≤ further-beside c) (sym (u-on (p / 9) (p ∷ []) on-it)) (omega arith) in
-        subst (λ (m : Marks). Allowed (m .card) (marked-chips m) (held-at b k) (good-at b k)) (sym (f .marks))
-        (subst (λ (y : List ℕ). Allowed (Card (p / 9)) (p ∷ []) (held-at b k) y) (sym (f .kept)) (i ∷ [], enough, f .only))
+        subst (λ (m : Marks). Allowed (m .card) (marked-chips m) (held-at b k) (good-at b k)) (sym (f .1 .marks))
+        (subst (λ (y : List ℕ). Allowed (Card (p / 9)) (p ∷ []) (held-at b k) y) (sym (f .1 .kept))
+        (i ∷ [], enough, subst (λ (y : List ℕ). DifferOnly Where y good) (sym (f .1 .held)) (f .2)))
 
     last-record : last-put n k (replicate 34 0) (pulled k rec p hits i x) ≡ rec
     last-record =
         last-is n k hi hk rec lr (call (mark (PlaceChip p)) ∷ call (mark (PlaceCard (p / 9))) ∷ (hits ++ (hit (45 * k + i) x ∷ [])))
-        (hits-keep n k (p / 9) (45 * k + i) x hits on)
+        (hits-keep n k (p / 9) (45 * k + i) x hits on) (replicate 34 0)
 
     held : (ss : List Seen) (b : Book) → Booked (fresh-book n) (pulled k rec p hits i x) ss b
         → (good : List ℕ) × Held n k hk (both p) good Where b
@@ -181,9 +170,9 @@ card-pulled n k hi hk rec out lr lq p hp hits on i x h ss s r =
     go b b′ w v =
         let f = held ss b w in
         let fine = accepts (45 * n) k 34 (length out) (both p) .get .1 ((n, omega arith, hi, refl), omega arith, lawful p hp, lq) in
-        given b (last-put n k (replicate 34 0) (pulled k rec p hits i x)) last-record (f .1 .marks)
+        given b (last-put n k (replicate 34 0) (pulled k rec p hits i x)) last-record (f .1 .1 .marks)
         (gets-last-put n (omega arith) hi (pulled k rec p hits i x) ss b w k out (call (get k out)) by-call s b′ v
-        (ap (λ (c : Marks). get-cause (45 * n) k c (length out)) (f .1 .marks) ∙ fine) (allowed (f .0) b (f .1)))
+        (ap (λ (c : Marks). get-cause (45 * n) k c (length out)) (f .1 .1 .marks) ∙ fine) (allowed (f .0) b (f .1)))
 
 -- ---- such lists can be run
 module _ (n k : ℕ) (hk : k < n) (j : ℕ) (hj : j < 5) (y : ℕ) (hy : y < 256) where

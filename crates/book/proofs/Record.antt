@@ -2,7 +2,10 @@
 --
 --   Kept n k rec b     a book of n blocks whose good block k is lawful and begins with rec
 --   ..-kept            so it is after each kind of entry, and after any list, rec being the record last put
---   gives              what a reading gives of a block whose damage is allowed: its good block is in S; comes: its answer comes back from the registers
+--   kept-after         and so it is in the book of every list
+--   ReadBy, get-reads  what a get reads, by the call and by the command, whose answer comes back from the registers (comes)
+--   get-in-list        the same in any list, the good block being that of the record last put
+--   gives              what a reading gives of a block whose damage is allowed: its good block is in S
 --   corrected-exactly  which answers are "corrected"
 --   gets-last-put      THE STATEMENT
 use Prim.Native.Nat.{ℕ, zero, suc, _*_, _/_, _≤_, _<_}
@@ -41,17 +44,17 @@ use Rattle.registers.specs.declared.Command.the-variants.{Get, Patrol, Mark, Un
 use Rattle.registers.proofs.Commands.{Comes, reading-comes}
 use Rattle.registers.proofs.Writes.{known-0}
 use Rattle.book.specs.Book.{clear, put, get, patrol, report, mark, clear-window, Entry, call, write, hit, says, Seen, State, Rest, rest-of}
-use Rattle.book.specs.Book.{Book, zero-book, many, size, registers-of, marks-of, held-at, with-marks, with-held, with-both, with-front, with-run, noted}
-use Rattle.book.specs.Book.{CallSays, CommandSays, WriteSays, Step, Booked}
+use Rattle.book.specs.Book.{Book, zero-book, fresh-book, many, size, registers-of, marks-of, held-at}
+use Rattle.book.specs.Book.{with-marks, with-held, with-both, with-front, with-run, noted, CallSays, CommandSays, WriteSays, Step, Booked}
 use Rattle.book.specs.Kept.{record-after, last-put, good-at, DamageAllowed, DamageOfChipKind, GetOf, by-call, by-command}
 use Rattle.book.specs.Kept.{Corrected, Answers, GivesRecord, GetsLastPut}
 use Rattle.book.proofs.Causes.{clear-none, get-none}
 
 -- ---- the good block, entry by entry
-record Kept (n k : ℕ) (rec : List ℕ) (b : Book) : Type 0 where
-  held : length (b .held) ≡ n
-  good : length (b .good) ≡ n
-  stored : Stored built-in rec (good-at b k)
+pub record Kept (n k : ℕ) (rec : List ℕ) (b : Book) : Type 0 where
+  pub held : length (b .held) ≡ n
+  pub good : length (b .good) ≡ n
+  pub stored : Stored built-in rec (good-at b k)
 
 module _ (n k : ℕ) (lo : 1 ≤ n) (hi : n ≤ 1024) (inside : k < n) where
   zeros-kept : (w : Rest) (run : List ℕ) → Kept n k (replicate 34 0) (zero-book n w run)
@@ -143,6 +146,48 @@ module _ (n k : ℕ) (lo : 1 ≤ n) (hi : n ≤ 1024) (inside : k < n) where
   all-kept [] [] g Booked.end = g
   all-kept (e ∷ es) (s ∷ ss) g (Booked.then w r) = all-kept es ss (entry-kept e s g w) r
 
+-- every book of n blocks that a list leads to
+pub kept-after : (n k : ℕ) → 1 ≤ n → n ≤ 1024 → k < n → (es : List Entry) (ss : List Seen) (b : Book) → Booked (fresh-book n) es ss b
+    → Kept n k (last-put n k (replicate 34 0) es) b
+kept-after n k lo hi hk es ss b w = all-kept n k lo hi hk es ss (zeros-kept n k lo hi hk (rest-of fresh-registers) []) w
+
+-- ---- the reading behind a get, by the call and by the command
+-- what such an entry answers, and what it read
+abbrev pub ReadBy : Book → ℕ → List ℕ → Entry → Seen → Type 0
+ReadBy b k out e s = (a : Answer) × Answers e s a × ReadsUnder (marks-of b) (held-at b k) out a (s .output)
+
+module _ (b : Book) (k : ℕ) (lawful : LawfulMarks (marks-of b)) where
+  read-at : (out : List ℕ) (a : Answer) (x : List ℕ) (b′ : Book) → get-cause (size b) k (marks-of b) (length out) ≡ 0 → CallSays b (get k out) a x b′
+      → ReadsUnder (marks-of b) (held-at b k) out a x
+  read-at out a x b′ z w = by-accepted _ a _ _ z w .0
+
+  pub comes : (out : List ℕ) (a : Answer) (x : List ℕ) → ReadsUnder (marks-of b) (held-at b k) out a x → Comes a
+  comes out a x w = reading-comes (10 ∷ []) refl a (reads-give (10 ∷ []) (inl refl) (marks-of b) lawful (held-at b k) out a x w)
+
+  pub get-reads : (out : List ℕ) (e : Entry) → GetOf b k out e → (s : Seen) (b′ : Book) → Step b e s b′
+      → get-cause (size b) k (marks-of b) (length out) ≡ 0 → ReadBy b k out e s
+  get-reads out e by-call s b′ t z = (t .says .0, t .says .1, read-at out (t .says .0) (s .output) b′ z (t .says .2))
+  get-reads out e (by-command v c) s b′ t z =
+      let x = t .says .0 in
+      let d = by-accepted _ x _ _ (known-0 (registers-of b) v (Get k) c refl) (t .says .2) in
+      let a = d .1 .0 in
+      let y = d .1 .1 in
+      let r = read-at out a (s .output) y z (subst (λ (q : Command). CommandSays b q out a (s .output) y) c (d .1 .2)) in
+      let told : last-answer (s .after .rest .registers) ≡ a =
+      ap (λ (τ : State). last-answer (τ .rest .registers)) (t .after) ∙ ap (λ (q : Book). last-answer (registers-of q)) (d .1 .3)
+      ∙ comes out a (s .output) r .back in
+      (a, (t .says .1 ∙ ap says (d .0), told), r)
+
+-- the same in any list: the good block is that of the record last put
+pub get-in-list : (n : ℕ) → 1 ≤ n → n ≤ 1024 → (es : List Entry) (ss : List Seen) (b : Book) → Booked (fresh-book n) es ss b
+    → (k : ℕ) (out : List ℕ) (e : Entry) → GetOf b k out e → (s : Seen) (b′ : Book) → Step b e s b′ → get-cause (45 * n) k (marks-of b) (length out) ≡ 0
+    → LawfulMarks (marks-of b) × Stored built-in (last-put n k (replicate 34 0) es) (good-at b k) × ReadBy b k out e s
+get-in-list n lo hi es ss b w k out e o s b′ t z =
+    let f = get-none n k (marks-of b) (length out) z in
+    let g = kept-after n k lo hi (f .1) es ss b w in
+    let l = cause-lawful (marks-of b) (f .2) in
+    (l, g .stored, get-reads b k l out e o s b′ t (ap (λ (m : ℕ). get-cause (45 * m) k (marks-of b) (length out)) (g .held) ∙ z))
+
 -- ---- a reading of a block whose damage is allowed
 module _ (b : Book) (k : ℕ) (rec : List ℕ) (lawful : LawfulMarks (marks-of b)) (good : Stored built-in rec (good-at b k)) (damage : DamageAllowed b k) where
   Fits : List ℕ → Type 0
@@ -189,30 +234,6 @@ module _ (b : Book) (k : ℕ) (rec : List ℕ) (lawful : LawfulMarks (marks-of b
   answered e s a q (inl w) = inl (a, q, w .0, w .1)
   answered e s a q (inr (j, f, w, v)) = inr (j, subst (Answers e s) f q, w, v)
 
-  -- by the call, and by the command
-  read-at : (out : List ℕ) (a : Answer) (x : List ℕ) (b′ : Book) → get-cause (size b) k (marks-of b) (length out) ≡ 0 → CallSays b (get k out) a x b′
-      → ReadsUnder (marks-of b) (held-at b k) out a x
-  read-at out a x b′ z w = by-accepted _ a _ _ z w .0
-
-  comes : (out : List ℕ) (a : Answer) (x : List ℕ) → ReadsUnder (marks-of b) (held-at b k) out a x → Comes a
-  comes out a x w = reading-comes (10 ∷ []) refl a (reads-give (10 ∷ []) (inl refl) (marks-of b) lawful (held-at b k) out a x w)
-
-  gets : (out : List ℕ) (e : Entry) → GetOf b k out e → (s : Seen) (b′ : Book) → Step b e s b′ → get-cause (size b) k (marks-of b) (length out) ≡ 0
-      → GivesRecord b k rec e s
-  gets out e by-call s b′ t z =
-      let a = t .says .0 in
-      answered (call (get k out)) s a (t .says .1) (gives out a (s .output) (read-at out a (s .output) b′ z (t .says .2)))
-  gets out e (by-command v c) s b′ t z =
-      let x = t .says .0 in
-      let d = by-accepted _ x _ _ (known-0 (registers-of b) v (Get k) c refl) (t .says .2) in
-      let a = d .1 .0 in
-      let y = d .1 .1 in
-      let r = read-at out a (s .output) y z (subst (λ (q : Command). CommandSays b q out a (s .output) y) c (d .1 .2)) in
-      let told : last-answer (s .after .rest .registers) ≡ a =
-      ap (λ (τ : State). last-answer (τ .rest .registers)) (t .after) ∙ ap (λ (q : Book). last-answer (registers-of q)) (d .1 .3)
-      ∙ comes out a (s .output) r .back in
-      answered (write 0 v out) s a (t .says .1 ∙ ap says (d .0), told) (gives out a (s .output) r)
-
 -- "corrected" is what a report counts as clean, chips or card
 pub corrected-exactly : (a : Answer) → Corrected a ↔ (class a < 3)
 corrected-exactly clean = ((λ u. omega arith), λ h. refl)
@@ -225,7 +246,7 @@ corrected-exactly (refused-card n j) = ((λ u. absurd (false≢true u)), λ h. a
 
 pub gets-last-put : GetsLastPut
 gets-last-put n lo hi es ss b w k out e o s b′ t z d =
-    let f = get-none n k (marks-of b) (length out) z in
-    let g = all-kept n k lo hi (f .1) es ss (zeros-kept n k lo hi (f .1) (rest-of fresh-registers) []) w in
-    let z′ : get-cause (size b) k (marks-of b) (length out) ≡ 0 = ap (λ (l : ℕ). get-cause (45 * l) k (marks-of b) (length out)) (g .held) ∙ z in
-    gets b k (last-put n k (replicate 34 0) es) (cause-lawful (marks-of b) (f .2)) (g .stored) d out e o s b′ t z′
+    let g = get-in-list n lo hi es ss b w k out e o s b′ t z in
+    let rec = last-put n k (replicate 34 0) es in
+    let a = g .2 .0 in
+    answered b k rec (g .0) (g .1) d e s a (g .2 .1) (gives b k rec (g .0) (g .1) d out a (s .output) (g .2 .2))

@@ -3,7 +3,7 @@
 --   booked           a call, as it is seen
 --   runs-next        a command, by the call that it stands for; write-next: a register write
 --   step, whole-from one entry of any kind; any list
---   fresh-is         at the start the state is that of the book
+--   fresh-is         at the start the state is that of the book; whole-long: the book's blocks are 45 long after any list
 --   whole            THE STATEMENT
 use Prim.Native.Nat.{ℕ, zero, suc, _/_, _%_, _<_}
 use mathlib.Core.Path.{_≡_, refl, sym, ap, ap₂, _∙_, subst}
@@ -139,15 +139,19 @@ module _ (b : Book) (long : EachLong 45 (b .held)) where
 
 -- ---- any list
 whole-from : (b : Book) → EachLong 45 (b .held) → (σ : State) → σ ≡ state-of b → (es : List Entry) (ss : List Seen) → Ran σ es ss
-    → (b′ : Book) × Booked b es ss b′
-whole-from b long σ i [] [] Ran.end = (b, Booked.end)
+    → (b′ : Book) × Booked b es ss b′ × EachLong 45 (b′ .held)
+whole-from b long σ i [] [] Ran.end = (b, Booked.end, long)
 whole-from b long σ i (e ∷ es) (s ∷ ss) (Ran.then c r) =
     let n = step b long e s (subst (λ (τ : State). EntryDone τ e s) i c) in
     let w = whole-from (n .0) (n .2) (s .after) (n .1 .after) es ss r in
-    (w .0, Booked.then (n .1) (w .1))
+    (w .0, Booked.then (n .1) (w .1), w .2)
 
 pub fresh-is : (n : ℕ) → fresh-state n ≡ state-of (fresh-book n)
 fresh-is n = ap₂ (λ (l win : List ℕ). state l (rest-of fresh-registers) win) (replicate-flat 45 n 0) (sym window-empty)
 
+-- and the book's blocks are 45 long
+pub whole-long : (n : ℕ) (es : List Entry) (ss : List Seen) → Ran (fresh-state n) es ss → (b : Book) × Booked (fresh-book n) es ss b × EachLong 45 (b .held)
+whole-long n es ss r = whole-from (fresh-book n) (each-replicate 45 n zeros refl) (fresh-state n) (fresh-is n) es ss r
+
 pub whole : WholeList
-whole n lo hi es ss r = whole-from (fresh-book n) (each-replicate 45 n zeros refl) (fresh-state n) (fresh-is n) es ss r
+whole n lo hi es ss r = let w = whole-long n es ss r in (w .0, w .1)

@@ -4,3 +4,4 @@ pub mod Noted
 pub mod Possible
 pub mod Again
 pub mod Pulled
+pub mod TwoHits

@@ -2,14 +2,12 @@
 --
 --   on, off                        one chip, on card j or off it
 --   none-marked, one-marked, second-on, first-on, both-off   the marked chips off card j, by their count and their cards
---   allowed-one, allowed-none      how many further chips the chip kind allows
 --   not-changed, if-unmarked       a row that is changed, and whose chip is not marked
 use mathlib.Core.Logic.{_≢_}
 use mathlib.Core.Path.{_≡_, refl, sym, ap, ap₂, _∙_}
 use mathlib.Core.Bool.{Bool, false, _&&_, not}
 use mathlib.Core.List.{List, [], _∷_}
-use Prim.Native.Nat.{ℕ, zero, suc, _+_, _*_, _/_, _<_, _≤_}
-use native.Mathlib.Omega.{arith}
+use Prim.Native.Nat.{ℕ, _+_, _*_, _/_}
 use lib.Dec.{eqb}
 use lib.ListN.{getD}
 use borrow.Author.Tests.{eq-eqb, ne-eqb}
@@ -20,7 +18,6 @@ use Rattle.marks.specs.declared.Marks.{Marks}
 use Rattle.marks.proofs.Chips.{chips-many}
 use Rattle.change.specs.declared.Change.{Change}
 use Rattle.change.proofs.Weight.{zero-not, nonzero-is}
-use Rattle.reading.specs.Allowed.{further}
 use Rattle.decode.specs.Search.{stray}
 
 pub on : (p j : ℕ) → p / 9 ≡ j → [] ≡ keep j (p ∷ [])
@@ -53,17 +50,6 @@ module _ (n a s j : ℕ) (n₀ : n ≢ 0) (n₁ : n ≢ 1) where
   pub both-off : a / 9 ≢ j → s / 9 ≢ j → a ∷ s ∷ [] ≡ keep j (chips-of n a s)
   unfolding keep
   both-off p q = ap₂ (λ (t u : Bool). if t (if u [] (s ∷ [])) (a ∷ if u [] (s ∷ []))) (sym (ne-eqb (a / 9) j p)) (sym (ne-eqb (s / 9) j q)) ∙ two
-
--- ---- how many further chips
-pub allowed-one : (u : ℕ) → u < 2 → 1 ≡ further u
-allowed-one zero h = refl
-allowed-one (suc zero) h = refl
-allowed-one (suc (suc u)) h = absurd (omega arith)
-
-pub allowed-none : (u : ℕ) → 2 ≤ u → 0 ≡ further u
-allowed-none zero h = absurd (omega arith)
-allowed-none (suc zero) h = absurd (omega arith)
-allowed-none (suc (suc u)) h = refl
 
 -- ---- strays
 module _ (d : Change) (ps : List ℕ) (i : ℕ) where

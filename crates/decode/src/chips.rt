@@ -92,20 +92,10 @@ fn count_strays(d: change::Change, m: marks::Marks) -> u8
     n
 }
 
-// How many further chips the chip kind allows under u chip marks.
-fn allowed_further(u: u8) -> u8
-    ensures { λ r. ⌜ r ≡ further u ⌝ }
-{
-    if u < 2 {
-        return 1;
-    }
-    0
-}
-
 // Whether a change of one card and of marked chips is of the chip kind.
 pub(crate) fn of_chip_kind(d: change::Change, m: marks::Marks) -> bool
     requires { ⌜ d .card < 5 ⌝ }
     ensures { λ r. ⌜ r ≡ leb (strays d (marked-chips m)) (further (m .count)) ⌝ }
 {
-    count_strays(d, m) <= allowed_further(m.count)
+    count_strays(d, m) <= reading::further(m.count)
 }

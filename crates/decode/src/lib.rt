@@ -83,7 +83,7 @@ fn no_marks(s: sums::Sums) -> Decoded
     let mut card: u8 = 0;
     'five: for j in 0u8..5 {
         if fits_alone(s, rows, j) {
-            if n <= 1 {
+            if n <= reading::further(0) {
                 return Decoded {
                     reading: reading::Reading::Corrected(chips_kind(n)),
                     change: equations::alone(rows, j),

@@ -1,9 +1,10 @@
 -- One block has one reading: two readings of it under the same marks say the same.
 --
 --   one-kind      a corrected block has one kind; one-lowest: there is one lowest card
---   reads-agree   two readings of one block under the same marks agree in the answer and in the output
+--   reads-agree   two readings of one block under the same marks agree in the answer and in the output; reads-only: so that one says
+--                 exactly what can be read
 --   under-agree   the same under a mark record, with the built-in labels
-use mathlib.Core.Logic.{_≢_, _⊎_, inl, inr}
+use mathlib.Core.Logic.{_≢_, _⊎_, inl, inr, _↔_}
 use mathlib.Core.Path.{_≡_, refl, sym, ap, ap₂, _∙_, subst}
 use mathlib.Core.List.{List}
 use Prim.Native.Nat.{ℕ, _<_, _≤_}
@@ -92,6 +93,10 @@ module _ (ls : List ℕ) (c : CardMark) (ps b out : List ℕ) where
 
   pub reads-agree : (a a′ : Answer) (x x′ : List ℕ) → Reads ls c ps b out a x → Reads ls c ps b out a′ x′ → Agreed a a′ x x′
   reads-agree a a′ x x′ h h′ = agree a a′ x x′ (outcome a x h) (outcome a′ x′ h′)
+
+  -- one reading says which there are
+  pub reads-only : (a : Answer) (x : List ℕ) → Reads ls c ps b out a x → (a′ : Answer) (x′ : List ℕ) → Reads ls c ps b out a′ x′ ↔ ((a′ ≡ a) × (x′ ≡ x))
+  reads-only a x h a′ x′ = (λ g. reads-agree a′ a x′ x g h, λ w. rw (w .0, w .1) h)
 
 pub under-agree : (m : Marks) (b out : List ℕ) (a a′ : Answer) (x x′ : List ℕ) → ReadsUnder m b out a x → ReadsUnder m b out a′ x′ → Agreed a a′ x x′
 under-agree m b out a a′ x x′ h h′ = reads-agree built-in (m .card) (marked-chips m) b out a a′ x x′ h h′

@@ -7,3 +7,5 @@ pub mod Limits
 pub mod Gives
 pub mod Before
 pub mod Named
+pub mod TwoBad
+pub mod Tied

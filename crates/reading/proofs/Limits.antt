@@ -1,13 +1,14 @@
 -- How many bytes a reading changes: at most 2 where it says chips, at most 11 where it says a card.
 --
 --   listed-limit, beside-limit   a change at listed positions; and on one card besides
+--   unmarked-limit a change of the chip kind with no marks
 --   chips-limit    "chips n", under at most two chip marks
 --   card-limit     "card j, n", under at most two chip marks
 use Prim.Native.Nat.{ℕ, _+_, _/_, _<_, _≤_}
 use mathlib.Core.Path.{_≡_, refl, ap}
 use mathlib.Core.Logic.{_≢_, _⊎_, inl, inr, ⊎-elim}
 use mathlib.Core.Bool.{Bool, true, false, _&&_, not}
-use mathlib.Core.List.{List, _++_}
+use mathlib.Core.List.{List, [], _++_}
 use native.Mathlib.Omega.{arith}
 use lib.Dec.{eqb}
 use lib.ListN.{length, length-append}
@@ -22,7 +23,7 @@ use Rattle.code.proofs.Few.{keep-short}
 use Rattle.marks.specs.Marks.{CardInRange}
 use Rattle.marks.specs.declared.CardMark.{CardMark}
 use Rattle.marks.specs.declared.CardMark.the-variants.{None, Card}
-use Rattle.reading.specs.Allowed.{u, further, further-beside, BesideUpTo, Allowed, OfChipKind}
+use Rattle.reading.specs.Allowed.{u, further-beside, ChipKind, BesideUpTo, Allowed, OfChipKind}
 use Rattle.reading.specs.Reading.{OnCard}
 use Rattle.reading.proofs.Beside.{beside-most, by-kept}
 use Rattle.reading.proofs.Searches.{further-most}
@@ -48,6 +49,10 @@ module _ (b x : List ℕ) where
     tally-never 45 (λ p. false) (λ p h. refl),
     tally-in 45 l,
   )
+
+  -- the chip kind with no marks is one byte at most
+  pub unmarked-limit : ChipKind [] b x → changes b x ≤ 1
+  unmarked-limit (fs, n, d) = omega (arith, n, listed-limit fs (λ p h. ⊎-elim inl (λ i. inr (⊎-elim (λ z. absurd z) (λ k. k) i)) (d p h)))
 
   beside-limit : (j : ℕ) → j < 5 → (l : List ℕ) → DifferOnly (λ p. (p / 9 ≡ j) ⊎ In p l) b x → changes b x ≤ 9 + length l
   unfolding changes moved

@@ -1,6 +1,7 @@
 -- S as the union of searches: of a card and the marked chips, for each of five cards; or beside a marked card.
 --
 --   further-one, further-most       at most one further chip is ever allowed, and with the marked chips two at most
+--   further-some, further-none      where one is, and where none is
 --   covered, covers                 with no card marked: what the five cards reach, with the marked chips
 --   beside-chips                    the chips of a search beside a marked card: the marked ones, or with none marked one further chip
 --   some-beside                     a change that such a search looks for, every marked chip being counted
@@ -44,6 +45,17 @@ pub further-one : (n : ℕ) → further n ≤ 1
 further-one zero = omega arith
 further-one (suc zero) = omega arith
 further-one (suc (suc n)) = omega arith
+
+-- the numbers of the table, as the code tells them
+pub further-some : (u n : ℕ) → u < 2 → n ≡ 1 → n ≡ further u
+further-some zero n h e = e
+further-some (suc zero) n h e = e
+further-some (suc (suc u)) n h e = absurd (omega arith)
+
+pub further-none : (u n : ℕ) → 2 ≤ u → n ≡ 0 → n ≡ further u
+further-none zero n h e = absurd (omega arith)
+further-none (suc zero) n h e = absurd (omega arith)
+further-none (suc (suc u)) n h e = e
 
 pub further-most : (n : ℕ) → n ≤ 2 → n + further n ≤ 2
 further-most zero h = omega arith

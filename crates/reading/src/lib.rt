@@ -1,4 +1,7 @@
-// What a reading of a block says. Its definitions are in specs/, and what follows of them in proofs/; no code.
+// What a reading of a block says, and how many further chips are allowed with no card marked. The definitions are in specs/, and what
+// follows of them in proofs/.
+ghost use mathlib.Core.Path.{_≡_};
+ghost use Rattle.reading.specs.Allowed.{further};
 
 // How a block was corrected, n being the number of bytes changed.
 pub enum Kind {
@@ -16,4 +19,14 @@ pub enum Reading {
     Several(u8),
     // The number of the cause; 10: no lawful block does.
     Refused(u8),
+}
+
+// How many further chips the chip kind allows under u chip marks and no card mark.
+pub fn further(u: u8) -> u8
+    ensures { λ r. ⌜ r ≡ further u ⌝ }
+{
+    if u < 2 {
+        return 1;
+    }
+    0
 }

@@ -5,7 +5,7 @@
 --   no-member        none, where S is empty
 --   two-members      several, where S has two members
 use mathlib.Core.Logic.{_↔_}
-use mathlib.Core.Path.{_≡_, refl}
+use mathlib.Core.Path.{refl}
 use mathlib.Core.List.{List}
 use Prim.Native.Nat.{ℕ}
 use Rattle.base.specs.Base.{In}
@@ -14,7 +14,7 @@ use Rattle.code.specs.Block.{NoMember, TwoMembers}
 use Rattle.code.specs.Labels.{built-in}
 use Rattle.marks.specs.declared.CardMark.{CardMark}
 use Rattle.reading.specs.Reading.{S, Reaches, LowestReaching, Reads}
-use Rattle.reading.proofs.Agree.{reads-agree}
+use Rattle.reading.proofs.Agree.{reads-only}
 use Rattle.table.specs.Table.{Told, Is, Fitting}
 use Rattle.table.specs.Table.Told.{corrected, none, several}
 
@@ -25,18 +25,15 @@ module _ (c : CardMark) (ps b : List ℕ) where
   unfoldable pub Exactly : Told → Type 0
   Exactly told = ((out : List ℕ) (a : Answer) (x : List ℕ) → Says out a x ↔ Is told out a x) × Fitting told ps b
 
-  same-answer : (out : List ℕ) (a : Answer) (y : List ℕ) → Says out a y → (a′ : Answer) (x : List ℕ) → Says out a′ x ↔ ((a′ ≡ a) × (x ≡ y))
-  same-answer out a y h a′ x = (λ g. reads-agree built-in c ps b out a′ a x y g h, λ w. rw (w .0, w .1) h)
-
   pub one-answer : (a : Answer) (y : List ℕ) → ((out : List ℕ) → Says out a y) → Exactly (corrected a y)
   unfolding Exactly
-  one-answer a y h = (λ out. same-answer out a y (h out), tt)
+  one-answer a y h = (λ out. reads-only built-in c ps b out a y (h out), tt)
 
   pub no-member : NoMember (S built-in c ps b) → Exactly none
   unfolding Exactly
-  no-member h = (λ out. same-answer out (refused 10) out (refl, h, refl), tt)
+  no-member h = (λ out. reads-only built-in c ps b out (refused 10) out (refl, h, refl), tt)
 
   pub two-members : TwoMembers (S built-in c ps b) → (j : ℕ) → LowestReaching built-in ps b j
       → (js : List ℕ) → ((i : ℕ) → Reaches built-in ps b i ↔ In i js) → Exactly (several j js)
   unfolding Exactly
-  two-members two j h js f = (λ out. same-answer out (refused-card 11 j) out (refl, two, h, refl), f)
+  two-members two j h js f = (λ out. reads-only built-in c ps b out (refused-card 11 j) out (refl, two, h, refl), f)

@@ -5,14 +5,14 @@
 --   also        a row, and the rows after it
 --   starred     THE TABLE
 --   beside      the row after it; beside-before: what it was before order 5
-use mathlib.Core.Logic.{_⊎_, inl, inr}
+use mathlib.Core.Logic.{inl, inr}
 use mathlib.Core.Path.{_≡_, refl}
 use mathlib.Core.List.{List, [], _∷_}
-use Prim.Native.Nat.{ℕ, _≤_}
+use Prim.Native.Nat.{ℕ}
 use native.Mathlib.Omega.{arith}
 use lib.Dec.{T, ltb}
 use lib.ListN.{length}
-use Rattle.base.specs.Base.{In, tally, those, Few}
+use Rattle.base.specs.Base.{tally, those, Few}
 use Rattle.base.proofs.Tests.{every}
 use Rattle.base.proofs.Few.{few-one}
 use Rattle.answer.specs.Answer.{clean}
@@ -33,6 +33,7 @@ use Rattle.reading.specs.Allowed.{ChipKind}
 use Rattle.reading.specs.Before.{SBefore}
 use Rattle.reading.proofs.Searches.{some-beside}
 use Rattle.reading.proofs.Facts.{clean-reads}
+use Rattle.reading.proofs.Limits.{unmarked-limit}
 use Rattle.table.specs.Table.{zeros-but, six, Told, Holds, StarredBlocks, BesideCard, BesideCardBefore}
 use Rattle.table.proofs.Settled.{Exactly, one-answer, no-member}
 use Rattle.table.proofs.Rows.{block-by, lawful-by, chips-row, card-row, beside-row, reached-fits, only-card, search-row, several-row}
@@ -51,19 +52,8 @@ abbrev ones-set : List ℕ
 ones-set = zeros-but ((0, 1) ∷ (1, 1) ∷ [])
 
 two-chips : ChipKind [] ones-set zeros → ⊥
-two-chips (fs, l, h) = go fs l (in-fs 0 (h 0 (omega arith))) (in-fs 1 (h 1 (omega arith)))
-  where
-    in-fs : (p : ℕ) → (_≡_ {A = ℕ} 1 0) ⊎ (⊥ ⊎ In p fs) → In p fs
-    in-fs p (inl e) = absurd (omega arith)
-    in-fs p (inr (inl i)) = absurd i
-    in-fs p (inr (inr i)) = i
-
-    go : (fs : List ℕ) → length fs ≤ 1 → In 0 fs → In 1 fs → ⊥
-    go [] l i k = i
-    go (f ∷ []) l (inl e) (inl d) = omega arith
-    go (f ∷ []) l (inl e) (inr k) = k
-    go (f ∷ []) l (inr i) k = i
-    go (f ∷ g ∷ fs) l i k = omega arith
+unfolding changes tally
+two-chips k = let n = unmarked-limit ones-set zeros k in omega (arith, n)
 
 infixr 2 _also_
 _also_ : {P Q : Type 0} → P → Q → P × Q

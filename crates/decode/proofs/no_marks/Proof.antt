@@ -46,13 +46,14 @@ fits-alone-requires c κs =
 returns : tie.Need-returns Inv-five μ-five
 returns c =
     let few = c .before .before in
-    let f = few .before .before in
+    let most = few .before in
+    let f = most .before .before in
     let at = f .before in
     let n = at .before .before in
     let r = n .before .before in
     let s = r .before in
     found-chips built-in built-in-set (s .args .s) (n .count .result) (counted n) (at .before .five .j) (at .five-test .taken) (f .fits-alone .result)
-    (f .fits-alone .ensures) (few .before .if1 .taken) (few .if2 .taken) _ (c .before .chips-kind .ensures) _
+    (f .fits-alone .ensures) (most .before .if1 .taken) (omega (arith, few .if2 .taken, most .further .ensures)) _ (c .before .chips-kind .ensures) _
     (c .alone2 .ensures ∙ ap (λ (z : List ℕ). rows-only z (at .before .five .j)) (r .rows .ensures))
 
 add-j : tie.Need-add-j Inv-five μ-five
@@ -71,16 +72,16 @@ five-again c =
     let inv = l .five .inv in
     let here = at .five-test .taken in
     ⊎-elim
-    (λ w. rw (w .3, w .4) (
+    (λ w. rw (w .4, w .5) (
       omega arith,
       omega arith,
       here,
-      (λ e. omega (arith, w .1 .left)),
+      (λ e. omega (arith, w .2 .left, w .1 .ensures)),
       (
         (λ e. subst (Alone built-in (s .args .s) (l .five .j)) (w .0 .taken) (f .fits-alone .ensures)),
         λ b k. found-card built-in built-in-set (s .args .s) (n .count .result) (counted n) (l .five .j) here (f .fits-alone .result)
-            (f .fits-alone .ensures) (w .0 .taken) (omega (arith, w .1 .left)) b k (l .five .card)
-            (let z : l .five .fitting ≡ 0 = omega (arith, inv .1, w .2 .left) in rw z at (inv .4 .1 b k)),
+            (f .fits-alone .ensures) (w .0 .taken) (omega (arith, w .2 .left, w .1 .ensures)) b k (l .five .card)
+            (let z : l .five .fitting ≡ 0 = omega (arith, inv .1, w .3 .left) in rw z at (inv .4 .1 b k)),
       ),
     ))
     (λ w. rw (w .1, w .2) (
@@ -106,12 +107,12 @@ left c =
     let inv = l .five .inv in
     ⊎-elim
     (λ w. rw (w .1) (omega (arith, inv .1), let e : l .five .j ≡ 5 = omega (arith, w .0 .left, inv .0) in rw e at (inv .4)))
-    (λ w. rw (w .5) (
+    (λ w. rw (w .6) (
       omega arith,
       (
         (λ e. absurd (omega arith)),
         λ b k. second-card built-in built-in-set (s .args .s) (n .count .result) (counted n) (l .five .j) (w .0 .taken) (w .1 .result)
-            (w .1 .ensures) (w .2 .taken) b k (l .five .card) (rw (w .4 .taken) at (inv .4 .1 b k)),
+            (w .1 .ensures) (w .2 .taken) b k (l .five .card) (rw (w .5 .taken) at (inv .4 .1 b k)),
       ),
     ))
     (c .five-test .came)
@@ -144,5 +145,5 @@ returns-4 c =
 pub no-marks-spec : {M : Type 1} → statement M
 no-marks-spec =
     tie.close
-    (tie.spec Inv-five μ-five (λ c κs. tt) (λ c κs. tt) (λ c κs. tt) five-holds fits-alone-requires (λ c κs. tt) (λ c κs. tt) returns add-j five-less
-    five-again (λ c κs. tt) returns-2 (λ c κs. tt) returns-3 (λ c κs. tt) returns-4)
+    (tie.spec Inv-five μ-five (λ c κs. tt) (λ c κs. tt) (λ c κs. tt) five-holds fits-alone-requires (λ c κs. tt) (λ c κs. tt) (λ c κs. tt) returns add-j
+    five-less five-again (λ c κs. tt) returns-2 (λ c κs. tt) returns-3 (λ c κs. tt) returns-4)
