@@ -8,8 +8,8 @@
 --   ran-many       as many are seen as there are entries; ran-parts: a list that ran, in two parts
 --   booked-join    a booking of two lists; put-last: what a list puts last, after another
 --   hit-both       a put and two hits, in a book of n blocks
---   got            a get leaves all but the run
 --   SomeHits       values by which two-hits can be run (some-hits); other: a byte that is another one
+--   got            after a get the block is hit as before; get-shows, patrol-shows: what is seen of a get and of a patrol of it
 --   gets-two-bad, patrols-two-bad, hit-twice, can-be-hit, at-the-limits   THE STATEMENTS
 use Prim.Native.Nat.{ℕ, zero, suc, _+_, _*_, _%_, _≤_, _<_}
 use mathlib.Core.Path.{_≡_, refl, sym, ap, _∙_, subst}
@@ -204,10 +204,6 @@ hit-twice n k hi hk rec lr p q hp hq ne x y es ss s t u r nx ny b w =
         ends b₀ (s₁ .0) (s₂ .0) (s₃ .0) w₀ (d₂ .1) (d₃ .1) (s₁ .2) (s₃ .2) (s₁ .1) (s₂ .1) (s₃ .1)
 
 -- ---- such lists can be run
-got : (b b′ : Book) (k : ℕ) (out : List ℕ) (s : Seen) → get-cause (size b) k (marks-of b) (length out) ≡ 0 → Step b (call (get k out)) s b′
-    → (ps : List ℕ) × (b′ ≡ noted b ps)
-got b b′ k out s z w = (_, by-accepted _ (w .says .0) _ _ z (w .says .2) .1)
-
 other : ℕ → ℕ
 other zero = 1
 other (suc v) = 0
@@ -260,31 +256,54 @@ some-hits n k hi hk rec out bytes p q hp hq = begin (any-list n (call (put k rec
         (bytes, ((omega (arith, hp, hk), f .0), ((omega (arith, hq, hk), g .0), (tt, (tt, tt))))) in
         ends s (Ran.then d Ran.end) x y (f .1) (g .1) (w .0) (w .1)
 
+-- the get and the patrol of a block that was hit twice, in a book of those before them
+module _ (n k : ℕ) (hi : n ≤ 1024) (hk : k < n) (p q : ℕ) (s u : Seen) where
+  bank : FitBank (45 * n)
+  bank = (n, omega (arith, hk), hi, refl)
+
+  get-fine : (b : Book) (out : List ℕ) → length out ≡ 45 → marks-of b ≡ fresh-marks → get-cause (45 * n) k (marks-of b) (length out) ≡ 0
+  get-fine b out lq none =
+      ap (λ (m : Marks). get-cause (45 * n) k m (length out)) none
+      ∙ accepts (45 * n) k 34 (length out) fresh-marks .get .1 (bank, omega (arith, hk), fresh-lawful, lq)
+
+  -- what is held, what was put and the marks are as before the get
+  got : (b b′ : Book) (out : List ℕ) (v : Seen) → length (b .held) ≡ n → get-cause (45 * n) k (marks-of b) (length out) ≡ 0
+      → Step b (call (get k out)) v b′ → HitAt k p q s u b → HitAt k p q s u b′
+  got b b′ out v many z w h =
+      subst (HitAt k p q s u)
+      (sym (by-accepted _ (w .says .0) _ _ (ap (λ (l : ℕ). get-cause (45 * l) k (marks-of b) (length out)) many ∙ z) (w .says .2) .1)) h
+
+  get-shows : (es : List Entry) (ss : List Seen) (out : List ℕ) (v : Seen) → Ran (fresh-state n) (es ++ (call (get k out) ∷ [])) (ss ++ (v ∷ []))
+      → length out ≡ 45 → (b : Book) → Booked (fresh-book n) es ss b → HitAt k p q s u b → marks-of b ≡ fresh-marks
+      → (a : Answer) × (v .said ≡ says a) × TwoSay p q (block (s .after .bank) k) out a (v .output)
+      × (take 34 (block (s .after .bank) k) ≡ last-put n k (replicate 34 0) es)
+  get-shows es ss out v r lq b w h none =
+      let g = gets-two-bad n es ss k out (call (get k out)) v r b w by-call (get-fine b out lq none) none p q (h .0) in
+      (g .0, g .1, subst (λ (l : List ℕ). TwoSay p q l out (g .0) (v .output)) (h .1) (g .2), ap (take 34) (sym (h .1)) ∙ g .3)
+
+  patrol-shows : (es : List Entry) (ss : List Seen) (w : Seen) → Ran (fresh-state n) (es ++ (call (patrol k) ∷ [])) (ss ++ (w ∷ []))
+      → (b : Book) → Booked (fresh-book n) es ss b → HitAt k p q s u b → marks-of b ≡ fresh-marks
+      → (c : Answer) × (w .said ≡ says c) × TwoSay p q (block (s .after .bank) k) (block (u .after .bank) k) c (block (w .after .bank) k)
+  patrol-shows es ss w r b v h none =
+      let f = patrols-two-bad n es ss k (call (patrol k)) w r b v patrolled-by-call
+      (ap (patrol-cause (45 * n) k) none ∙ accepts (45 * n) k 34 45 fresh-marks .patrol .1 (bank, omega (arith, hk), fresh-lawful)) none p q (h .0) in
+      (f .0, f .1, rw (h .1, h .2) at (f .2))
+
 pub can-be-hit : CanBeHit
 can-be-hit n k hi hk rec out bytes lr lq p q hp hq ne = go (some-hits n k hi hk rec out bytes p q hp hq)
   where
-    go : SomeHits n k rec out p q → ShownAt n k rec out p q
-    go (x, y, s, t, u, v, w, Ran.then d₁ (Ran.then d₂ (Ran.then d₃ (Ran.then d₄ (Ran.then d₅ Ran.end)))), none, nx, ny) =
-        let hits = two-hits k rec p x q y in
-        let r₃ : Ran (fresh-state n) hits (s ∷ t ∷ u ∷ []) = Ran.then d₁ (Ran.then d₂ (Ran.then d₃ Ran.end)) in
-        let r₄ : Ran (fresh-state n) (hits ++ (call (get k out) ∷ [])) (s ∷ t ∷ u ∷ v ∷ []) =
-        Ran.then d₁ (Ran.then d₂ (Ran.then d₃ (Ran.then d₄ Ran.end))) in
-        let r₅ = Ran.then d₁ (Ran.then d₂ (Ran.then d₃ (Ran.then d₄ (Ran.then d₅ Ran.end)))) in
-        let b = whole-long n hits (s ∷ t ∷ u ∷ []) r₃ in
-        let hit = hit-twice n k hi hk rec lr p q hp hq ne x y [] [] s t u r₃ nx ny (b .0) (b .1) in
-        let d = hit .0 in
-        let bank : FitBank (45 * n) = (n, omega (arith, hk), hi, refl) in
-        let marks : marks-of (b .0) ≡ fresh-marks = d .3 ∙ none in
-        let fine = ap (λ (m : Marks). get-cause (45 * n) k m (length out)) marks
-        ∙ accepts (45 * n) k 34 (length out) fresh-marks .get .1 (bank, omega (arith, hk), fresh-lawful, lq) in
-        let g = gets-two-bad n hits (s ∷ t ∷ u ∷ []) k out (call (get k out)) v r₄ (b .0) (b .1) by-call fine marks p q (d .0) in
-        let c = before-last n hits (s ∷ t ∷ u ∷ []) (call (get k out)) v r₄ (b .0) (b .1) in
-        let many = kept-after n k (omega (arith, hk)) hi hk hits (s ∷ t ∷ u ∷ []) (b .0) (b .1) .held in
-        let e = got (b .0) (c .0) k out v (ap (λ (l : ℕ). get-cause (45 * l) k (marks-of (b .0)) (length out)) many ∙ fine) (c .1) .1 in
-        let marks₄ = ap marks-of e ∙ marks in
-        let f = patrols-two-bad n (hits ++ (call (get k out) ∷ [])) (s ∷ t ∷ u ∷ v ∷ []) k (call (patrol k)) w r₅ (c .0) (c .3) patrolled-by-call
-        (ap (patrol-cause (45 * n) k) marks₄ ∙ accepts (45 * n) k 34 45 fresh-marks .patrol .1 (bank, omega (arith, hk), fresh-lawful)) marks₄ p q
-        (subst (λ (l : Book). TwoBad (held-at l k) (good-at l k) p q) (sym e) (d .0)) in (
+    -- by the books after the hits and after the get
+    shown : (x y : ℕ) (s t u v w : Seen) → Ran (fresh-state n) (two-hits k rec p x q y ++ (call (get k out) ∷ [])) (s ∷ t ∷ u ∷ v ∷ [])
+        → Ran (fresh-state n) (two-hits k rec p x q y ++ (call (get k out) ∷ call (patrol k) ∷ [])) (s ∷ t ∷ u ∷ v ∷ w ∷ [])
+        → (b b′ : Book) → Booked (fresh-book n) (two-hits k rec p x q y) (s ∷ t ∷ u ∷ []) b → Step b (call (get k out)) v b′
+        → Booked (fresh-book n) (two-hits k rec p x q y ++ (call (get k out) ∷ [])) (s ∷ t ∷ u ∷ v ∷ []) b′
+        → HitAt k p q s u b → last-put n k (replicate 34 0) (two-hits k rec p x q y) ≡ rec → in-force (s .after .rest) ≡ fresh-marks
+        → ShownAt n k rec out p q
+    shown x y s t u v w r₄ r₅ b b′ w₃ step₄ w₄ h last none =
+        let many = kept-after n k (omega (arith, hk)) hi hk (two-hits k rec p x q y) (s ∷ t ∷ u ∷ []) b w₃ .held in
+        let marks = h .3 ∙ none in
+        let h′ = got n k hi hk p q s u b b′ out v many (get-fine n k hi hk p q s u b out lq marks) step₄ h in
+        let g = get-shows n k hi hk p q s u (two-hits k rec p x q y) (s ∷ t ∷ u ∷ []) out v r₄ lq b w₃ h marks in (
           x,
           y,
           s,
@@ -293,15 +312,21 @@ can-be-hit n k hi hk rec out bytes lr lq p q hp hq ne = go (some-hits n k hi hk 
           v,
           w,
           r₅,
-          (g .0, g .1, subst (λ (l : List ℕ). TwoSay p q l out (g .0) (v .output)) (d .1) (g .2)),
-          (
-            f .0,
-            f .1,
-            subst (λ (l : List ℕ). TwoSay p q (block (s .after .bank) k) l (f .0) (block (w .after .bank) k)) (ap (λ (l : Book). held-at l k) e ∙ d .2)
-                (subst (λ (l : List ℕ). TwoSay p q l (held-at (c .0) k) (f .0) (block (w .after .bank) k)) (ap (λ (l : Book). good-at l k) e ∙ d .1) (f .2)),
-          ),
-          ap (take 34) (sym (d .1)) ∙ g .3 ∙ hit .1,
+          (g .0, g .1, g .2),
+          patrol-shows n k hi hk p q s u (two-hits k rec p x q y ++ (call (get k out) ∷ [])) (s ∷ t ∷ u ∷ v ∷ []) w r₅ b′ w₄ h′ (h′ .3 ∙ none),
+          g .3 ∙ last,
         )
+
+    go : SomeHits n k rec out p q → ShownAt n k rec out p q
+    go (x, y, s, t, u, v, w, Ran.then d₁ (Ran.then d₂ (Ran.then d₃ (Ran.then d₄ (Ran.then d₅ Ran.end)))), none, nx, ny) =
+        let r₃ : Ran (fresh-state n) (two-hits k rec p x q y) (s ∷ t ∷ u ∷ []) = Ran.then d₁ (Ran.then d₂ (Ran.then d₃ Ran.end)) in
+        let r₄ : Ran (fresh-state n) (two-hits k rec p x q y ++ (call (get k out) ∷ [])) (s ∷ t ∷ u ∷ v ∷ []) =
+        Ran.then d₁ (Ran.then d₂ (Ran.then d₃ (Ran.then d₄ Ran.end))) in
+        let b = whole-long n (two-hits k rec p x q y) (s ∷ t ∷ u ∷ []) r₃ in
+        let c = before-last n (two-hits k rec p x q y) (s ∷ t ∷ u ∷ []) (call (get k out)) v r₄ (b .0) (b .1) in
+        let d = hit-twice n k hi hk rec lr p q hp hq ne x y [] [] s t u r₃ nx ny (b .0) (b .1) in
+        shown x y s t u v w r₄ (Ran.then d₁ (Ran.then d₂ (Ran.then d₃ (Ran.then d₄ (Ran.then d₅ Ran.end))))) (b .0) (c .0) (b .1) (c .1) (c .3) (d .0)
+        (d .1) none
 
 pub at-the-limits : AtTheLimits
 at-the-limits rec out bytes lr lq = (
