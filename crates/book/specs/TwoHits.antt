@@ -1,13 +1,13 @@
 -- Order 11 about lists: a block that was put and then hit, so that exactly two of its chips are bad, and no marks.
 --
---   PatrolOf        a patrol of block k: the call, or the command that stands for it
+--   PatrolOf        a patrol of block k: the call, or the command that stands for it; ByCommand: which commands do
 --   GetsTwoBad      in any list that ran, a get of such a block: of one card that card, n = 2 and the record last put; of two cards 10, the
 --                   output being as before
 --   PatrolsTwoBad   a patrol of it: of one card the block in the bank is then the one that was put, of two cards it is as before
 --   two-hits        a put, and hits of two bytes of the block; HitAt, HitTwice: whatever came before, this is such damage
 --   ShownAt         such a list on a bank just cleared, with a get and a patrol, that can be run, and what is seen of it
 --   CanBeHit        there is one for every record and every two bytes; AtTheLimits: in the smallest bank, and in the last block of the largest
-use Prim.Native.Nat.{ℕ, _+_, _*_, _≤_, _<_}
+use Prim.Native.Nat.{ℕ, _+_, _*_, _/_, _%_, _≤_, _<_}
 use mathlib.Core.Path.{_≡_}
 use mathlib.Core.Logic.{_≢_}
 use mathlib.Core.List.{List, [], _∷_, _++_}
@@ -17,6 +17,7 @@ use Rattle.marks.specs.Marks.{fresh-marks}
 use Rattle.code.specs.Block.{byte}
 use Rattle.reading.specs.TwoBad.{TwoBad, TwoSay}
 use Rattle.bank.specs.Calls.{block, get-cause, patrol-cause}
+use Rattle.registers.specs.Registers.{register}
 use Rattle.registers.specs.Write.{command-of}
 use Rattle.registers.specs.declared.Command.the-variants.{Patrol}
 use Rattle.book.specs.Book.{put, get, patrol, Entry, call, write, hit, says, Seen, in-force, fresh-state, Ran}
@@ -29,6 +30,11 @@ use Rattle.book.specs.Possible.{Bytes}
 pub data PatrolOf (b : Book) (k : ℕ) : Entry → Type 0 where
   patrolled-by-call : PatrolOf b k (call (patrol k))
   patrolled-by-command : (v : ℕ) (out : List ℕ) → command-of (registers-of b) v ≡ Patrol k → PatrolOf b k (write 0 v out)
+
+-- with the block's number in bytes 1 and 2, 1 written to byte 0 is such a get, and 2 such a patrol
+abbrev pub ByCommand : Type 0
+ByCommand = (b : Book) (k : ℕ) (out : List ℕ) → register (registers-of b) 1 ≡ k % 256 → register (registers-of b) 2 ≡ k / 256
+    → GetOf b k out (write 0 1 out) × PatrolOf b k (write 0 2 out)
 
 -- in every list that ran and ends with that get, by every book of what came before it
 abbrev pub GetsTwoBad : Type 0
