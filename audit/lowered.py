@@ -92,6 +92,7 @@ class Function:
     handed: int         # how many parameters there are
     steps: list         # its assignments and calls
     calls: set          # the functions that it names
+    body: list = "skip"     # all that it does
 
     @property
     def parameters(self):
@@ -179,14 +180,16 @@ class Program:
         raise Unreadable(f"the type {kind}")
 
 
-def program(text):
-    """The program in what rattle-print-mir writes."""
+def program(text, crates=None):
+    """The program in what rattle-print-mir writes; if crates are named, their part."""
     top = term(text)
     if not top or top[0] != "program":
         raise Unreadable("no program")
     functions, types = {}, {}
     for definition in items(top[1]):
         head, name, item, *declared = definition
+        if crates is not None and name.split("::")[0] not in crates:
+            continue
         if head != "fn-def" or item[0] != "fnItem":
             raise Unreadable(f"the definition {head}")
         _, _, _, handed, values, body = item
@@ -194,7 +197,7 @@ def program(text):
         if name in functions:
             raise Unreadable(f"{name} is there twice")
         functions[name] = Function(name, [value[1] for value in items(values)],
-                                   int(handed), list(steps(body)), calls)
+                                   int(handed), list(steps(body)), calls, body)
         for _, kind, inside in (pair for listed in declared for pair in items(listed)):
             if types.setdefault(kind, inside) != inside:
                 raise Unreadable(f"{kind} is two types")
@@ -206,19 +209,40 @@ def program(text):
 
 # ---- the source
 
-def needs():
-    """The crates that the library is made of, and the kit's that they need."""
-    lines = (line.split("#")[0] for line in (ROOT / "crates.txt").read_text().splitlines())
-    listed = {name.strip(): rest.split() for name, colon, rest in
-              (line.partition(":") for line in lines) if colon}
-    found, waiting = [], ["capi"]
+def listed():
+    """The crates of crates.txt, from the bottom up, with what each needs."""
+    text = (ROOT / "crates.txt").read_text()
+    lines = (line.split("#")[0] for line in text.splitlines())
+    return {name.strip(): rest.split() for name, colon, rest in
+            (line.partition(":") for line in lines) if colon}
+
+
+def needs(starts=("capi",)):
+    """The crates that these are made of, the library's first; and the kit's."""
+    every = listed()
+    found, waiting = [], list(starts)
     while waiting:
         name = waiting.pop()
         if name not in found:
             found.append(name)
-            waiting += listed.get(name, [])
-    return ([name for name in listed if name in found],
-            ["std", *(name for name in found if name not in listed)])
+            waiting += every.get(name, [])
+    return ([name for name in every if name in found],
+            ["std", *(name for name in found if name not in every)])
+
+
+def root(crate):
+    """The file that a crate begins with: a program has another than a library."""
+    main = crate / "src" / "main.rt"
+    return main if main.exists() else crate / "src" / "lib.rt"
+
+
+def has_code(crate):
+    """Whether there is more than comments.  The name of a crate without code would
+    stand in the way of a module of that name."""
+    lines = (line.strip() for path in (crate / "src").rglob("*.rt")
+             for line in path.read_text().splitlines())
+    return not root(crate).exists() or any(
+        line and not line.startswith("//") for line in lines)
 
 
 def kit():
@@ -230,17 +254,31 @@ def kit():
     return Path(home) / "on" / os.uname().machine
 
 
-def lower(crates=ROOT / "crates"):
-    """The program of the crates in this folder."""
-    own, theirs = needs()
-    words = [word for name in own for word in ("--lib", f"{name}={crates / name}/src/lib.rt")]
+def printed(roots, theirs):
+    """What rattle-print-mir writes of crates, by the file that each begins with."""
+    words = [word for name, file in roots.items()
+             for word in ("--lib", f"{name}={file}")]
     words += [word for name in theirs
               for word in ("--extern", f"{name}={kit() / 'rlib' / name}.rlib")]
     with tempfile.TemporaryDirectory() as folder:
         empty = Path(folder) / "main.rt"
         empty.write_text("fn main() {}\n")
-        done = subprocess.run([kit() / "bin" / "rattle-print-mir", empty, "--crate-name",
-                               "empty", *words], text=True, capture_output=True)
+        done = subprocess.run([kit() / "bin" / "rattle-print-mir", empty,
+                               "--crate-name", "empty", *words],
+                              text=True, capture_output=True)
     if done.returncode:
         raise Unreadable(f"the compiler does not take the source:\n{done.stderr}")
-    return program(done.stdout)
+    return done.stdout
+
+
+def lower(crates=ROOT / "crates"):
+    """The library in this folder, with what it needs of the kit."""
+    own, theirs = needs()
+    return program(printed({name: root(crates / name) for name in own}, theirs))
+
+
+def lower_all(crates=ROOT / "crates"):
+    """Every crate in this folder, the programs too, without what is the kit's."""
+    own, theirs = needs(listed())
+    roots = {name: root(crates / name) for name in own if has_code(crates / name)}
+    return program(printed(roots, theirs), roots)

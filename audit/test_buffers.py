@@ -2,62 +2,25 @@
 
 import os
 import re
-import shutil
 import subprocess
 import sys
-import tempfile
 import unittest
-from pathlib import Path
 
 sys.dont_write_bytecode = True
 
 import plants
 from buffers import CALLS, TABLES, refusals
 from lowered import ROOT, lower, needs
-
-
-def planted(edits, folder):
-    """The crates' source in a folder, with these edits."""
-    for crate in needs()[0]:
-        shutil.copytree(ROOT / "crates" / crate / "src", folder / crate / "src")
-    for crate, file, old, new in edits:
-        path = folder / crate / "src" / f"{file}.rt"
-        text = path.read_text()
-        if old is None:
-            path.write_text(text + new)
-        else:
-            if text.count(old) != 1:
-                raise AssertionError(f"{path.name} has {text.count(old)} times: {old}")
-            path.write_text(text.replace(old, new))
-
-
-class InFolder(unittest.TestCase):
-    def setUp(self):
-        folder = tempfile.TemporaryDirectory()
-        self.addCleanup(folder.cleanup)
-        self.crates = Path(folder.name)
-
-    def said(self, plant):
-        planted(plant.edits, self.crates)
-        return refusals(lower(self.crates))
-
-
-def planting(plant):
-    def test(self):
-        found = self.said(plant)
-        for begins in plant.says:
-            self.assertTrue(any(line.startswith(begins) for line in found), found)
-        if not plant.and_more:
-            self.assertEqual([line for line in found if not line.startswith(plant.says)], [])
-    return test
+from planted import InFolder, planted, tests_of
 
 
 class Planted(InFolder):
-    """A test for each plant."""
+    def said(self, plant):
+        planted(plant.edits, self.crates, needs()[0])
+        return refusals(lower(self.crates))
 
 
-for number, (name, plant) in enumerate(plants.ALL.items(), 1):
-    setattr(Planted, f"test_{number:02}_{name.replace(' ', '_')}", planting(plant))
+tests_of(plants.ALL, Planted)
 
 
 class Source(unittest.TestCase):
@@ -114,7 +77,7 @@ class Run(InFolder):
         self.assertRegex(lines[-1], f"^audit/buffers: {len(lines) - 1} functions")
 
     def test_on_a_planted_one(self):
-        planted(plants.ALL["array"].edits, self.crates)
+        planted(plants.ALL["array"].edits, self.crates, needs()[0])
         done = self.run_it("--crates", self.crates)
         self.assertEqual((done.returncode, done.stdout), (1, ""))
         self.assertIn("block::correct: a value of its own is [u8; 45], 45 bytes\n",
@@ -122,7 +85,7 @@ class Run(InFolder):
         self.assertIn("\naudit/buffers: 2 refused\n", done.stderr)
 
     def test_on_source_that_the_compiler_does_not_take(self):
-        planted([plants.behind("sums", "\nfn broken( {\n")], self.crates)
+        planted([plants.behind("sums", "\nfn broken( {\n")], self.crates, needs()[0])
         done = self.run_it("--crates", self.crates)
         self.assertEqual((done.returncode, done.stdout), (1, ""))
         self.assertIn("audit/buffers: the compiler does not take the source", done.stderr)

@@ -1,4 +1,5 @@
-"""What audit/lowered.py does not understand it does not pass over."""
+"""What audit/lowered.py does not understand it does not pass over; and which crates it
+takes."""
 
 import sys
 import unittest
@@ -6,7 +7,8 @@ import unittest
 sys.dont_write_bytecode = True
 
 from buffers import refusals
-from lowered import Unreadable, program
+from lowered import Unreadable, has_code, needs, program, root
+from planted import InFolder
 
 
 def function(kind, body="return", name="a::b"):
@@ -108,6 +110,39 @@ class Unknown(unittest.TestCase):
                      "program (lcons (fn-def 1 (constant)) lnil) lnil"):
             with self.subTest(text), self.assertRaises(Unreadable):
                 program(text)
+
+
+class Crates(InFolder):
+    def written(self, **files):
+        """Whether a crate of these files has code."""
+        (self.crates / "src").mkdir(exist_ok=True)
+        for name, text in files.items():
+            (self.crates / "src" / f"{name}.rt").write_text(text)
+        return has_code(self.crates)
+
+    def test_code(self):
+        self.assertTrue(self.written())     # the compiler says that there is no file
+        self.assertFalse(self.written(lib="// Statements.\n\n  // No code.\n"))
+        self.assertTrue(self.written(more="fn f() {}\n"))
+
+    def test_root(self):
+        self.written(lib="")
+        self.assertEqual(root(self.crates).name, "lib.rt")
+        self.written(main="")
+        self.assertEqual(root(self.crates).name, "main.rt")
+
+    def test_others_are_left_out(self):
+        text = function("tyBool", '(foreign "write" lnil)')
+        self.assertEqual(program(text, {"b"}).functions, {})
+        with self.assertRaisesRegex(Unreadable, "the step foreign"):
+            program(text, {"a"})
+
+    def test_needs(self):
+        own, theirs = needs()
+        self.assertIn("capi", own)
+        self.assertNotIn("cabinet", own)
+        self.assertEqual(theirs, ["std", "bytes"])
+        self.assertIn("io", needs(["cabinet"])[1])
 
 
 if __name__ == "__main__":

@@ -1,9 +1,10 @@
 """Checks of the second implementation against document 01 and the orders.
 
 Those of reference.py and bank.py are here; those of the registers, the window,
-the rounding, the slips, two bad chips and the lists in selftest_registers.py,
-selftest_window.py, selftest_rounding.py, selftest_slips.py,
-selftest_two_chips.py and selftest_lists.py.
+the rounding, the slips, two bad chips, the tables and the lists in
+selftest_registers.py, selftest_window.py, selftest_rounding.py,
+selftest_slips.py, selftest_two_chips.py, selftest_tables.py and
+selftest_lists.py.
 
 Prints 'N checks, 0 failed', or a message for each failure and exit 1.
 """
@@ -23,6 +24,7 @@ import selftest_lists
 import selftest_registers
 import selftest_rounding
 import selftest_slips
+import selftest_tables
 import selftest_two_chips
 import selftest_window
 from checking import check, counts, marks, zeros_with
@@ -604,6 +606,7 @@ def main():
     selftest_rounding.check_rounding()
     selftest_slips.check_slips(rng)
     selftest_two_chips.check_two_chips(rng)
+    selftest_tables.check_tables()
     print(f"{counts['done']} checks, {counts['failed']} failed")
     return 1 if counts["failed"] else 0
 

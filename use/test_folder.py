@@ -8,7 +8,8 @@ import unittest
 from kit import ARCHIVE, C_FLAGS, KIT, ROOT, InFolder, needs, run, try_run
 
 WHOLE = {"liblivomashen.a", "livomashen.h", "livomashen.pc", "livomashen.3",
-         "cabinet.1", "inspect.1", "DATA-SHEET.md", "example.c", "registers.c",
+         "cabinet.1", "inspect.1", "tables.1", "DATA-SHEET.md", "TABLES.txt",
+         "example.c", "registers.c",
          "Cargo.toml", "build.rs", "src/lib.rs", "src/livomashen.rs",
          *(f"src/livomashen/{part}.rs"
            for part in ("raw", "refusal", "registers", "slips", "window"))}
@@ -95,6 +96,7 @@ class Installed(InFolder):
                               "include/livomashen.h",
                               "share/man/man3/livomashen.3",
                               "share/doc/livomashen/DATA-SHEET.md",
+                              "share/doc/livomashen/TABLES.txt",
                               "share/doc/livomashen/example.c",
                               "share/doc/livomashen/registers.c"}, found)
         self.assertEqual((prefix / "lib/liblivomashen.a").read_bytes(),

@@ -14,3 +14,4 @@ pub mod Stored
 pub mod Tied
 pub mod Differing
 pub mod AllOrOne
+pub mod Constants

@@ -14,3 +14,4 @@ pub mod Steps
 pub mod Inverses
 pub mod Powers
 pub mod Tied
+pub mod Constants

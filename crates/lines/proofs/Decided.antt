@@ -1,20 +1,14 @@
--- What is put into lent bytes is decided.
+-- The sound line of five totals, and the bytes that it is put into, are decided.
 --
---   put-text-decided   a text, put at a place of the same bytes, leaves the same place and the same bytes
 --   one-figure         five totals have one figure
 --   sound-decided      their sound line, put at a place of the same bytes, leaves the same place and the same bytes
-use mathlib.Core.Path.{_≡_, sym, ap, _∙_, subst}
-use mathlib.Core.List.{List, _++_}
+use mathlib.Core.Path.{_≡_, subst}
+use mathlib.Core.List.{List}
 use Prim.Native.Nat.{ℕ, _+_, _*_}
-use lib.ListN.{take, drop}
 use Rattle.rounding.proofs.Halves.{rounds-agree}
-use Rattle.lines.specs.Lines.{SoundFigure, sound-line}
-use Rattle.lines.specs.Put.{room, Put, SoundPut}
-
-pub put-text-decided : (text out : List ℕ) (at n n′ : ℕ) (o o′ : List ℕ) → Put text out at n o → Put text out at n′ o′ → (n ≡ n′) × (o ≡ o′)
-put-text-decided text out at n n′ o o′ p q =
-    let e : n ≡ n′ = p .place ∙ sym (q .place) in
-    (e, p .bytes ∙ ap (λ (k : ℕ). take at out ++ (take (room out at text) text ++ drop k out)) e ∙ sym (q .bytes))
+use Rattle.lines.specs.Lines.{SoundFigure, sound-line, SoundPut}
+use Rattle.text.specs.Put.{Put}
+use Rattle.text.proofs.Decided.{put-text-decided}
 
 module _ (v w x y z : ℕ) where
   pub one-figure : (p q : ℕ) → SoundFigure v w x y z p → SoundFigure v w x y z q → p ≡ q

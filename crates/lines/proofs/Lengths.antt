@@ -7,7 +7,7 @@ use native.Mathlib.Omega.{arith}
 use lib.ListN.{length, length-append}
 use Rattle.answer.specs.Answer.{Answer, done, clean, in-chips, in-card, counted, refused, refused-card}
 use Rattle.lines.specs.Lines.{count-line, block-line, totals-line, sound-line, refused-line}
-use Rattle.lines.proofs.Decimal.{short}
+use Rattle.text.proofs.Decimal.{short}
 
 abbrev pub Small : Answer → Type 0
 Small clean = Unit {0}

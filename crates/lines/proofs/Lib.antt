@@ -1,5 +1,3 @@
-pub mod Decimal
-pub mod Pieces
 pub mod Samples
 pub mod Lengths
 pub mod Tied

@@ -9,7 +9,8 @@ use mathlib.Core.List.{_++_}
 use native.Mathlib.Omega.{arith}
 use Rattle.rounding.proofs.Rounding.{within}
 use Rattle.answer.specs.Answer.{clean, in-chips, in-card, refused, refused-card}
-use Rattle.lines.specs.Lines.{ascii, digits-up-to, decimal, count-line, block-line, totals-line, SoundFigure, sound-line, refused-line}
+use Rattle.text.specs.Text.{ascii, digits-up-to, decimal}
+use Rattle.lines.specs.Lines.{count-line, block-line, totals-line, SoundFigure, sound-line, refused-line}
 
 count : count-line 1024 ≡ ascii "blocks 1024\n"
 unfolding decimal digits-up-to

@@ -17,8 +17,6 @@ use Rattle.lines.proofs.sound_line as sound-line
 use Rattle.lines.proofs.sound_line.Reads as sound-line-reads
 use Rattle.lines.proofs.refused_line as refused-line
 use Rattle.lines.proofs.refused_line.Reads as refused-line-reads
-use Rattle.lines.proofs.put as put
-use Rattle.lines.proofs.put.Reads as put-reads
 
 pub count-line-asks : (κs : Lifetimes.Lfts 1) (a : World.ArgsD count-line.signature κs) → count-line-reads.Asked κs a
 count-line-asks κs a = tt
@@ -43,6 +41,3 @@ sound-line-asks κs a = tt
 
 pub refused-line-asks : (κs : Lifetimes.Lfts 1) (a : World.ArgsD refused-line.signature κs) → refused-line-reads.Asked κs a
 refused-line-asks κs a = tt
-
-pub put-asks : (κs : Lifetimes.Lfts 2) (a : World.ArgsD put.signature κs) → put-reads.Asked κs a
-put-asks κs a = tt

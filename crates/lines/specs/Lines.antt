@@ -1,48 +1,19 @@
 -- The lines of text that the bank program prints, as ASCII codes. Document 01, "The bank program"; document 02, orders 6 and 7.
 --
---   ascii "word"        the codes of a text's characters
---   decimal n           the decimal digits of n, with no zero in front; "0" for 0
---   line words          the words with a space between, and a newline
 --   count-line n        "blocks N"
 --   block-line k a      what is printed of block k, which reads as a
 --   totals-line         "clean A chips B card C none D several E"
 --   SoundFigure .. q    q is the figure of the sound line, by the five totals
 --   sound-line q        "sound Q"
 --   refused-line n      "refused N"
-use Prim.Native.Nat.{ℕ, zero, suc, _+_, _/_, _%_}
-use Prim.Native.Char.{code}
-use Prim.Native.String.{String}
-use Prim.Native.String.{[] as end, _∷_ as _then_}
-use mathlib.Core.List.{List, [], _∷_, _++_}
-use lib.Dec.{ltb}
-use Rattle.base.specs.Base.{if}
+--   SoundPut            the sound line of five totals, put into lent bytes
+use Prim.Native.Nat.{ℕ, _+_}
+use mathlib.Core.List.{List, [], _∷_}
+use Rattle.text.specs.Text.{ascii, decimal, line}
+use Rattle.text.specs.Put.{Put}
 use Rattle.rounding.specs.PerThousand.{PerThousand}
 use Rattle.answer.specs.Answer.{Answer, done, clean, in-chips, in-card, counted, refused, refused-card}
 
--- ---- words
-abbrev pub ascii : String → List ℕ
-ascii end = []
-ascii (c then s) = code c ∷ ascii s
-
-abbrev pub line : List (List ℕ) → List ℕ
-line [] = ascii "\n"
-line (w ∷ []) = w ++ ascii "\n"
-line (w ∷ v ∷ ws) = w ++ (ascii " " ++ line (v ∷ ws))
-
--- ---- numbers
-abbrev pub digit : ℕ → List ℕ
-digit d = (48 + d) ∷ []
-
--- the digits of n, where they are at most as many as the first number says
-unfoldable pub digits-up-to : ℕ → ℕ → List ℕ
-digits-up-to zero n = []
-digits-up-to (suc most) n = if (ltb n 10) (digit n) (digits-up-to most (n / 10) ++ digit (n % 10))
-
--- n has at most n + 1 digits
-unfoldable pub decimal : ℕ → List ℕ
-decimal n = digits-up-to (suc n) n
-
--- ---- lines
 abbrev pub count-line : ℕ → List ℕ
 count-line n = line (ascii "blocks" ∷ decimal n ∷ [])
 
@@ -83,3 +54,8 @@ sound-line q = line (ascii "sound" ∷ decimal q ∷ [])
 -- "`refused` and the lowest number, on a line alone"
 abbrev pub refused-line : ℕ → List ℕ
 refused-line n = line (ascii "refused" ∷ decimal n ∷ [])
+
+pub record SoundPut (clean chips card none several : ℕ) (out : List ℕ) (at next : ℕ) (out′ : List ℕ) : Type 0 where
+  pub figure : ℕ
+  pub rounded : SoundFigure clean chips card none several figure
+  pub put : Put (sound-line figure) out at next out′

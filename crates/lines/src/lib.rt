@@ -1,48 +1,46 @@
 // The lines of text that the bank program prints, newline included: specs/Lines.antt. Each function puts a line into lent bytes from
-// a place on, as far as there is room, and gives the place after it: specs/Put.antt. Where nothing has room, nothing is written.
-ghost use mathlib.Core.Path.{_≡_};
-ghost use mathlib.Core.List.{_++_};
+// a place on, as far as there is room, and gives the place after it, as the functions of the crate `text` do.
 ghost use Rattle.answer.specs.Answer.{in-chips, in-card, refused, refused-card};
-ghost use Rattle.lines.specs.Lines.{ascii, decimal, count-line, block-line, totals-line, refused-line};
-ghost use Rattle.lines.specs.Put.{Put, SoundPut};
+ghost use Rattle.text.specs.Put.{Put};
+ghost use Rattle.lines.specs.Lines.{count-line, block-line, totals-line, refused-line, SoundPut};
 
 pub fn count_line(n: u16, out: &mut [u8], at: usize) -> usize
     ensures { λ r. ⌜ Put (count-line n) (now (out .entry)) at r (now (out .exit)) ⌝ }
 {
-    number_line(b"blocks ", n as u64, out, at)
+    text::number_line(b"blocks ", n as u64, out, at)
 }
 
 // Block k reads as corrected in chips, n bytes changed.
 pub fn chips_line(k: u16, n: u8, out: &mut [u8], at: usize) -> usize
     ensures { λ r. ⌜ Put (block-line k (in-chips n)) (now (out .entry)) at r (now (out .exit)) ⌝ }
 {
-    let named = number(k as u64, out, at);
-    number_line(b" chips ", n as u64, out, named)
+    let named = text::number(k as u64, out, at);
+    text::number_line(b" chips ", n as u64, out, named)
 }
 
 // Block k reads as corrected on card j, n bytes changed.
 pub fn card_line(k: u16, j: u8, n: u8, out: &mut [u8], at: usize) -> usize
     ensures { λ r. ⌜ Put (block-line k (in-card j n)) (now (out .entry)) at r (now (out .exit)) ⌝ }
 {
-    let named = number(k as u64, out, at);
-    let on = labelled(b" card ", j as u64, out, named);
-    number_line(b" ", n as u64, out, on)
+    let named = text::number(k as u64, out, at);
+    let on = text::labelled(b" card ", j as u64, out, named);
+    text::number_line(b" ", n as u64, out, on)
 }
 
 // Block k reads as "none".
 pub fn none_line(k: u16, out: &mut [u8], at: usize) -> usize
     ensures { λ r. ⌜ Put (block-line k (refused 10)) (now (out .entry)) at r (now (out .exit)) ⌝ }
 {
-    let named = number(k as u64, out, at);
-    put(b" none\n", out, named)
+    let named = text::number(k as u64, out, at);
+    text::put(b" none\n", out, named)
 }
 
 // Block k reads as "several", with card j.
 pub fn several_line(k: u16, j: u8, out: &mut [u8], at: usize) -> usize
     ensures { λ r. ⌜ Put (block-line k (refused-card 11 j)) (now (out .entry)) at r (now (out .exit)) ⌝ }
 {
-    let named = number(k as u64, out, at);
-    number_line(b" several ", j as u64, out, named)
+    let named = text::number(k as u64, out, at);
+    text::number_line(b" several ", j as u64, out, named)
 }
 
 pub fn totals_line(
@@ -56,11 +54,11 @@ pub fn totals_line(
 ) -> usize
     ensures { λ r. ⌜ Put (totals-line clean chips card none several) (now (out .entry)) at r (now (out .exit)) ⌝ }
 {
-    let first = labelled(b"clean ", clean as u64, out, at);
-    let second = labelled(b" chips ", chips as u64, out, first);
-    let third = labelled(b" card ", card as u64, out, second);
-    let fourth = labelled(b" none ", none as u64, out, third);
-    number_line(b" several ", several as u64, out, fourth)
+    let first = text::labelled(b"clean ", clean as u64, out, at);
+    let second = text::labelled(b" chips ", chips as u64, out, first);
+    let third = text::labelled(b" card ", card as u64, out, second);
+    let fourth = text::labelled(b" none ", none as u64, out, third);
+    text::number_line(b" several ", several as u64, out, fourth)
 }
 
 // The sums are wider than a total, so that none wraps.
@@ -77,56 +75,11 @@ pub fn sound_line(
 {
     let sound = clean as u32 + chips as u32 + card as u32;
     let n = sound + none as u32 + several as u32;
-    number_line(b"sound ", rounding::per_thousand(sound, n), out, at)
+    text::number_line(b"sound ", rounding::per_thousand(sound, n), out, at)
 }
 
 pub fn refused_line(n: u8, out: &mut [u8], at: usize) -> usize
     ensures { λ r. ⌜ Put (refused-line n) (now (out .entry)) at r (now (out .exit)) ⌝ }
 {
-    number_line(b"refused ", n as u64, out, at)
-}
-
-// The word, the number and the newline.
-fn number_line(word: &[u8], n: u64, out: &mut [u8], at: usize) -> usize
-    ensures { λ r. ⌜ Put (now (word .entry) ++ (decimal n ++ ascii "\n")) (now (out .entry)) at r (now (out .exit)) ⌝ }
-    ensures { λ _. ⌜ now (word .exit) ≡ now (word .entry) ⌝ }
-{
-    let said = labelled(word, n, out, at);
-    put(b"\n", out, said)
-}
-
-// The word and the number.
-fn labelled(word: &[u8], n: u64, out: &mut [u8], at: usize) -> usize
-    ensures { λ r. ⌜ Put (now (word .entry) ++ decimal n) (now (out .entry)) at r (now (out .exit)) ⌝ }
-    ensures { λ _. ⌜ now (word .exit) ≡ now (word .entry) ⌝ }
-{
-    let said = put(word, out, at);
-    number(n, out, said)
-}
-
-// The digits of a number.
-fn number(n: u64, out: &mut [u8], at: usize) -> usize
-    ensures { λ r. ⌜ Put (decimal n) (now (out .entry)) at r (now (out .exit)) ⌝ }
-{
-    let mut digits = [0u8; 20];
-    let k = io::decimal(n, &mut digits);
-    put(&digits[..k], out, at)
-}
-
-// The bytes of a piece as they are.
-pub fn put(piece: &[u8], out: &mut [u8], at: usize) -> usize
-    ensures { λ r. ⌜ Put (now (piece .entry)) (now (out .entry)) at r (now (out .exit)) ⌝ }
-    ensures { λ _. ⌜ now (piece .exit) ≡ now (piece .entry) ⌝ }
-{
-    let mut to = at;
-    let mut i = 0;
-    while i < piece.len() {
-        if to >= out.len() {
-            return to;
-        }
-        out[to] = piece[i];
-        to += 1;
-        i += 1;
-    }
-    to
+    text::number_line(b"refused ", n as u64, out, at)
 }

@@ -15,8 +15,8 @@ use Rattle.reading.specs.Reading.{ReadsUnder}
 use Rattle.bank.specs.Calls.{block}
 use Rattle.bank.proofs.Each.{extended, extended-at, extended-below, extended-reads}
 use Rattle.lines.specs.Lines.{block-line}
-use Rattle.lines.specs.Put.{Put}
-use Rattle.lines.proofs.Pieces.{joined, nothing}
+use Rattle.text.specs.Put.{Put}
+use Rattle.text.proofs.Pieces.{joined, nothing}
 use Rattle.program.specs.Program.{block-lines}
 use Rattle.program.specs.Parts.{BlocksPut}
 

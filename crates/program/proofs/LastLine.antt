@@ -22,7 +22,8 @@ use Rattle.bank.proofs.Done.{class-below}
 use Rattle.rounding.specs.PerThousand.{PerThousand}
 use Rattle.rounding.proofs.Halves.{rounds-agree}
 use Rattle.rounding.proofs.PerThousand.{worked, all-or-none}
-use Rattle.lines.specs.Lines.{digits-up-to, decimal, count-line, totals-line, sound-line}
+use Rattle.text.specs.Text.{digits-up-to, decimal}
+use Rattle.lines.specs.Lines.{count-line, totals-line, sound-line}
 use Rattle.program.specs.Program.{input-marks, input-bank, block-lines, PrintsReport}
 use Rattle.program.specs.LastLine.{TotalsAddUp, EndsWith, LastLine, OfSixteen}
 use Rattle.program.proofs.Report.{counted-cause, counted-each}

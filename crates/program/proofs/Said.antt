@@ -22,8 +22,8 @@ use Rattle.bank.specs.Calls.{blocks, report-answer, ReportDone}
 use Rattle.bank.specs.declared.Reported.the-variants.{Counted}
 use Rattle.bank.specs.declared.Totals.{Totals}
 use Rattle.lines.specs.Lines.{refused-line}
-use Rattle.lines.specs.Put.{Put}
-use Rattle.lines.proofs.Pieces.{whole}
+use Rattle.text.specs.Put.{Put}
+use Rattle.text.proofs.Pieces.{whole}
 use Rattle.program.specs.Program.{input-bank, input-marks, bank-text, PrintsReport, Prints, SayDone}
 use Rattle.program.specs.Parts.{BankPut}
 use Rattle.program.proofs.Report.{fine, counted-cause}

@@ -15,7 +15,8 @@ use Rattle.reading.specs.Reading.{ReadsUnder}
 use Rattle.table.proofs.Table.{starred}
 use Rattle.bank.specs.Calls.{block, how-many, report-cause}
 use Rattle.rounding.proofs.Rounding.{within}
-use Rattle.lines.specs.Lines.{ascii, digits-up-to, decimal, SoundFigure}
+use Rattle.text.specs.Text.{ascii, digits-up-to, decimal}
+use Rattle.lines.specs.Lines.{SoundFigure}
 use Rattle.program.specs.Program.{input-marks, input-bank, bank-text, Prints}
 use Rattle.program.specs.Sample.{sample-input, sample-text, SamplePrints}
 

@@ -17,7 +17,7 @@ use Rattle.table.specs.Table.{no-mark, zeros-but, two}
 use Rattle.table.proofs.Table.{starred}
 use Rattle.bank.specs.Calls.{block, report-cause}
 use Rattle.rounding.proofs.PerThousand.{worked}
-use Rattle.lines.specs.Lines.{digits-up-to, decimal}
+use Rattle.text.specs.Text.{digits-up-to, decimal}
 use Rattle.program.specs.Program.{input-marks, input-bank}
 use Rattle.program.specs.Sample.{sixteen-input, SixteenCounted, SixteenPrint}
 

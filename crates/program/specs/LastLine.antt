@@ -13,7 +13,8 @@ use Rattle.answer.specs.Answer.{counted}
 use Rattle.marks.specs.declared.Marks.{Marks}
 use Rattle.bank.specs.Calls.{blocks, ReportDone}
 use Rattle.rounding.specs.PerThousand.{PerThousand}
-use Rattle.lines.specs.Lines.{ascii, sound-line}
+use Rattle.text.specs.Text.{ascii}
+use Rattle.lines.specs.Lines.{sound-line}
 use Rattle.program.specs.Program.{input-marks, input-bank, Prints}
 
 abbrev pub TotalsAddUp : Type 0

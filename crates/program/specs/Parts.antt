@@ -9,7 +9,7 @@ use Rattle.marks.specs.declared.Marks.{Marks}
 use Rattle.bank.specs.Calls.{blocks, block, EachReads}
 use Rattle.bank.specs.declared.Totals.{Totals}
 use Rattle.lines.specs.Lines.{SoundFigure}
-use Rattle.lines.specs.Put.{Put}
+use Rattle.text.specs.Put.{Put}
 use Rattle.program.specs.Program.{block-lines, bank-text}
 
 pub record BlocksPut (bank : List ℕ) (m : Marks) (n : ℕ) (out : List ℕ) (at next : ℕ) (out′ : List ℕ) : Type 0 where

@@ -9,7 +9,7 @@ use Prim.Native.Nat.{ℕ, zero, suc, _-_}
 use lib.ListN.{replicate}
 use Rattle.answer.specs.Answer.{Answer, counted}
 use Rattle.bank.specs.Calls.{ReportDone}
-use Rattle.lines.specs.Lines.{ascii}
+use Rattle.text.specs.Text.{ascii}
 use Rattle.program.specs.Program.{input-marks, input-bank, Prints}
 
 -- "255, 0, 255, 255, then 45 zeros, then 8, 6, 1 and 42 zeros"

@@ -7,7 +7,7 @@ ghost use Rattle.reading.specs.Reading.{reading-answer};
 ghost use Rattle.reading.specs.declared.Reading.the-variants.{Corrected};
 ghost use Rattle.bank.specs.Calls.{blocks};
 ghost use Rattle.lines.specs.Lines.{block-line};
-ghost use Rattle.lines.specs.Put.{Put};
+ghost use Rattle.text.specs.Put.{Put};
 ghost use Rattle.program.specs.Program.{SayDone};
 ghost use Rattle.program.specs.Parts.{BlocksPut, BankPut};
 
@@ -77,7 +77,7 @@ fn corrected_line(k: u16, kind: reading::Kind, out: &mut [u8], at: usize) -> usi
     ensures { λ next. ⌜ Put (block-line k (reading-answer (Corrected kind))) (now (out .entry)) at next (now (out .exit)) ⌝ }
 {
     match kind {
-        reading::Kind::Clean => lines::put(b"", out, at),
+        reading::Kind::Clean => text::put(b"", out, at),
         reading::Kind::Chips(n) => lines::chips_line(k, n, out, at),
         reading::Kind::OneCard(j, n) => lines::card_line(k, j, n, out, at),
     }

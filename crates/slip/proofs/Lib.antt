@@ -10,3 +10,4 @@ pub mod Plain
 pub mod Runs
 pub mod Readings
 pub mod Tied
+pub mod Constants

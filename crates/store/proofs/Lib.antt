@@ -1,6 +1,7 @@
 pub mod Written
 pub mod Pairs
-pub mod Factors
+pub mod Solved
 pub mod Storing
 pub mod Tied
 pub mod Decided
+pub mod Constants

@@ -32,7 +32,8 @@ use Rattle.store.specs.Steps.{chip-sum, Begun, in-row}
 use Rattle.store.specs.Store.{store-cause, StoreDone}
 use Rattle.store.proofs.Written.{in-row-at, in-row-length}
 use Rattle.store.proofs.Pairs.{row-kept, sum-moved}
-use Rattle.store.proofs.Factors.{Factors, solved-once, solved-squared}
+use Rattle.store.specs.Factors.{Factors}
+use Rattle.store.proofs.Solved.{solved-once, solved-squared}
 
 -- a square of a sum
 square : (a b : ℕ) → (a · a) ⊕ (b · b) ≡ (a ⊕ b) · (a ⊕ b)

@@ -8,9 +8,10 @@ ghost use Prim.Native.Nat.{_+_, _<_, _≤_};
 ghost use lib.ListN.{length};
 ghost use Rattle.answer.specs.Answer.{outcome-answer};
 ghost use Rattle.field.specs.Field.{_⊕_, _·_};
-ghost use Rattle.code.specs.Block.{OneMember, Stored};
+ghost use Rattle.code.specs.Block.{byte, OneMember, Stored};
 ghost use Rattle.code.specs.Labels.{built-in};
 ghost use Rattle.store.specs.Steps.{chip-sum, Copied, Filled, Begun, in-row};
+ghost use Rattle.store.specs.Factors.{Factors};
 ghost use Rattle.store.specs.Store.{StoreDone};
 
 // Copies from into the front of to.
@@ -67,6 +68,15 @@ fn combine(s: u8, f: u8, t: u8, g: u8) -> u8
     field::add(field::mul(s, f), field::mul(t, g))
 }
 
+const FACTORS: [u8; 4] = [26, 243, 136, 247];
+
+// The two factors of byte 34, and the two of byte 35, for the built-in labels.
+fn factors() -> [u8; 4]
+    ensures { λ r. ⌜ Factors built-in (byte r 0) (byte r 1) (byte r 2) (byte r 3) ⌝ }
+{
+    FACTORS
+}
+
 // Adds e to a byte of card 3 and to the byte of card 4 in its row.
 fn add_in_row(out: &mut [u8], p: usize, e: u8)
     requires { ⌜ p + 9 < length (now out) ⌝ }
@@ -85,9 +95,9 @@ fn write(rec: &[u8], out: &mut [u8])
     let u = sums::gather(out);
     let once = sums::at_x(u);
     let squared = sums::at_x_squared(u);
-    // The four factors are those of the built-in labels.
-    let x = combine(once, 26, squared, 243);
-    let y = combine(once, 136, squared, 247);
+    let f = factors();
+    let x = combine(once, f[0], squared, f[1]);
+    let y = combine(once, f[2], squared, f[3]);
     add_in_row(out, 34, x);
     add_in_row(out, 35, y);
 }

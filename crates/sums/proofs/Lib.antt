@@ -7,3 +7,4 @@ pub mod Syndrome
 pub mod Decided
 pub mod Onto
 pub mod Tied
+pub mod Constants

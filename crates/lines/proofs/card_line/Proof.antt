@@ -1,6 +1,6 @@
 -- The block number, the card after it, and the rest of the line.
 use borrow.Author.Needs.{needs}
-use Rattle.lines.proofs.Pieces.{joined}
+use Rattle.text.proofs.Pieces.{joined}
 use Rattle.lines.proofs.card_line.Statement.{statement}
 use Rattle.lines.proofs.card_line.Tie as tie
 

@@ -1,6 +1,6 @@
 -- The block number, and the word after it, which ends the line.
 use borrow.Author.Needs.{needs}
-use Rattle.lines.proofs.Pieces.{joined}
+use Rattle.text.proofs.Pieces.{joined}
 use Rattle.lines.proofs.none_line.Statement.{statement}
 use Rattle.lines.proofs.none_line.Tie as tie
 

@@ -1,6 +1,6 @@
 -- The block number, and the rest of the line after it.
 use borrow.Author.Needs.{needs}
-use Rattle.lines.proofs.Pieces.{joined}
+use Rattle.text.proofs.Pieces.{joined}
 use Rattle.lines.proofs.several_line.Statement.{statement}
 use Rattle.lines.proofs.several_line.Tie as tie
 

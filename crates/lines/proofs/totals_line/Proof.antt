@@ -1,6 +1,6 @@
 -- Five pieces, one after the other.
 use borrow.Author.Needs.{needs}
-use Rattle.lines.proofs.Pieces.{joined}
+use Rattle.text.proofs.Pieces.{joined}
 use Rattle.lines.proofs.totals_line.Statement.{statement}
 use Rattle.lines.proofs.totals_line.Tie as tie
 

@@ -1,7 +1,7 @@
 -- Four pieces, one after the other.
 use mathlib.Core.Path.{refl}
 use borrow.Author.Needs.{needs}
-use Rattle.lines.proofs.Pieces.{joined}
+use Rattle.text.proofs.Pieces.{joined}
 use Rattle.program.proofs.bank_text.Statement.{statement}
 use Rattle.program.proofs.bank_text.Tie as tie
 

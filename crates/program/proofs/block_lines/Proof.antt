@@ -7,7 +7,7 @@ use borrow.Author.Needs.{needs}
 use Rattle.reading.specs.Reading.{reading-answer}
 use Rattle.bank.specs.Calls.{blocks}
 use Rattle.bank.proofs.Done.{looked}
-use Rattle.lines.proofs.Pieces.{kept}
+use Rattle.text.proofs.Pieces.{kept}
 use Rattle.program.specs.Parts.{BlocksPut}
 use Rattle.program.proofs.Blocks.{no-block, one-block-more}
 use Rattle.program.proofs.block_lines.Statement.{statement}

@@ -8,7 +8,6 @@ use Rattle.code.specs.Labels.{built-in}
 use Rattle.code.proofs.BuiltIn.{built-in-set}
 use Rattle.sums.specs.Words.{spread}
 use Rattle.sums.proofs.Syndrome.{built-in-below, once-of, squared-of}
-use Rattle.store.proofs.Factors.{built-in-factors}
 use Rattle.store.proofs.Storing.{is-stored}
 use borrow.Author.Needs.{needs}
 use Rattle.store.proofs.write.Statement.{statement}
@@ -20,7 +19,8 @@ returns c =
     let first = second .before .before .before .before in
     let y = first .before .before in
     let x = y .before in
-    let squared = x .before in
+    let f = x .before in
+    let squared = f .before in
     let once = squared .before in
     let g = once .before in
     let known = g .before .before in
@@ -30,7 +30,7 @@ returns c =
     let hb : (p : ℕ) → byte b p < 2 ^ 8 = λ p. omega (arith, known .slice-known2 .given p) in
     let u : ℕ = g .gather .result in
     let word = g .gather .ensures .block (begun .begin .ensures .long) in
-    is-stored built-in built-in-set 26 243 136 247 built-in-factors (s .args .rec .now) b (first .add-in-row .last .0) (second .add-in-row2 .last .0)
+    is-stored built-in built-in-set _ _ _ _ (f .factors .ensures) (s .args .rec .now) b (first .add-in-row .last .0) (second .add-in-row2 .last .0)
     (s .pre .0) hb (begun .begin .ensures) (once .at-x .result) (squared .at-x-squared .result) (x .combine .result) (y .combine2 .result)
     (once .at-x .ensures ∙ once-of built-in b (spread built-in) built-in-below hb refl u word)
     (squared .at-x-squared .ensures ∙ squared-of built-in b (spread built-in) built-in-below hb refl u word)
@@ -39,5 +39,5 @@ returns c =
 pub write-spec : {M : Type 1} → statement M
 write-spec =
     tie.close
-    (tie.spec (λ c κs. search needs) (λ c κs. search needs) (λ c κs. tt) (λ c κs. tt) (λ c κs. tt) (λ c κs. tt) (λ c κs. search needs)
-    (λ c κs. search needs) (λ c. search needs) returns)
+    (tie.spec (λ c κs. search needs) (λ c κs. search needs) (λ c κs. tt) (λ c κs. tt) (λ c κs. tt) (λ c. search needs) (λ c. search needs)
+    (λ c κs. tt) (λ c. search needs) (λ c. search needs) (λ c κs. tt) (λ c κs. search needs) (λ c κs. search needs) (λ c. search needs) returns)

@@ -1,0 +1,2 @@
+pub mod WorkedFactors
+pub mod EveryTable

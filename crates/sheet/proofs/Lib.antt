@@ -1,0 +1,9 @@
+pub mod Logs
+pub mod Steps
+pub mod Sections
+pub mod Text
+pub mod Said
+pub mod Decided
+pub mod Lines
+pub mod ByTables
+pub mod Tied

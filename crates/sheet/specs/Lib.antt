@@ -1,0 +1,5 @@
+pub mod Sheet
+pub mod Parts
+pub mod Lines
+pub mod Undo
+pub mod ByTables

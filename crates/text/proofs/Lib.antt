@@ -1,0 +1,4 @@
+pub mod Decimal
+pub mod Pieces
+pub mod Decided
+pub mod Tied
