@@ -34,13 +34,12 @@ received nor the output, as the window is.
 --list        show each function that is followed, and its longest value
 """
 
-import argparse
 import sys
-from pathlib import Path
 
 sys.dont_write_bytecode = True
 
-from lowered import ROOT, Unreadable, lower
+from asked import asked
+from lowered import Unreadable, lower
 from tables import tables
 
 BLOCK = 45
@@ -157,13 +156,9 @@ def refusals(program):
 
 
 def main():
-    asked = argparse.ArgumentParser(
-        description=__doc__, formatter_class=argparse.RawDescriptionHelpFormatter)
-    asked.add_argument("--crates", type=Path, default=ROOT / "crates")
-    asked.add_argument("--list", action="store_true")
-    asked = asked.parse_args()
+    options = asked(__doc__)
     try:
-        program = lower(asked.crates)
+        program = lower(options.crates)
         found = refusals(program)
     except Unreadable as reason:
         sys.exit(f"audit/buffers: {reason}")
@@ -171,7 +166,7 @@ def main():
         sys.exit("\n".join([*found, f"audit/buffers: {len(found)} refused"]))
     longest = {function.name: max(sizes(function, program.size).values(), default=0)
                for function in program.reached(CALLS)}
-    if asked.list:
+    if options.list:
         for name, size in sorted(longest.items()):
             print(f"{size:2} bytes at most: {name}")
     print(f"audit/buffers: {len(longest)} functions followed, and no value is as long as "

@@ -55,15 +55,14 @@ Not seen are:
 --list        show each table: function, length and first numbers
 """
 
-import argparse
 import sys
 from dataclasses import dataclass
-from pathlib import Path
 
 sys.dont_write_bytecode = True
 
+from asked import asked
 from known import walked
-from lowered import ROOT, Unreadable, lower_all
+from lowered import Unreadable, lower_all
 from statement import LINE, STATEMENT, THEOREM, is_proved, named
 from tables import place, whole
 from values import EACH, Sign, is_known, leaves, numbers
@@ -196,17 +195,13 @@ def leaning(program, found):
 
 
 def main():
-    asked = argparse.ArgumentParser(
-        description=__doc__, formatter_class=argparse.RawDescriptionHelpFormatter)
-    asked.add_argument("--crates", type=Path, default=ROOT / "crates")
-    asked.add_argument("--list", action="store_true")
-    asked = asked.parse_args()
+    options = asked(__doc__)
     try:
-        program = lower_all(asked.crates)
+        program = lower_all(options.crates)
         found = tables(program)
-        if asked.list:
+        if options.list:
             print("\n".join(map(str, found)))
-        refused = [*refusals(found, named(asked.crates), is_proved(asked.crates)),
+        refused = [*refusals(found, named(options.crates), is_proved(options.crates)),
                    *leaning(program, found)]
     except Unreadable as reason:
         sys.exit(f"audit/constants: {reason}")
