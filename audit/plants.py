@@ -30,11 +30,13 @@ READ = "    let d = correct(received, s, m, out);\n    d.reading"
 CORRECT = "    let d = decode::decode(s, m);\n    let r = d.reading;"
 GET = "    block::read_noted(&bank[from..end], m, out, w)"
 PATROL = "    block::mend(&mut bank[start..end], m, w)"
-REPORT = "        let i = class_of(block::look(&bank[at..end], m));"
+REPORT = "    class_of(block::look(&bank[at..end], m))"
 MEND = "    // On a refusal the change is none."
 NO_MARKS = "    let n = change::count(equations::alone(rows, 0));"
 OVER_CARDS = "    let rows = sums::rows(s);\n    let mut found: u8 = 0;"
 ROWS = "    word(b, 0) ^ word(b, 9)"
+OF_BLOCK = "    }\n}\n\n// The sums of a record"
+OF_RECORD = "    }\n}\n\n// Whether all eleven"
 COPY = "        let mut piece = [0u8; 16];"
 FROM_C = "    encode::of_reading(block::read(block, marks::from_slice(m), out))"
 COMMAND = "    let written = registers::write("
@@ -65,9 +67,9 @@ ARRAYS = {
         (held("bank::patrol", "[u8; 45], 45 bytes"),
          "bank::patrol: its arrays are")),
     "array in report": Plant(
-        [before("bank", REPORT, "        let whole = [0u8; 45];\n")],
-        (held("bank::count_blocks", "[u8; 45], 45 bytes"),
-         "bank::count_blocks: its arrays are")),
+        [before("bank", REPORT, "    let whole = [0u8; 45];\n")],
+        (held("bank::class_at", "[u8; 45], 45 bytes"),
+         "bank::class_at: its arrays are")),
     "array in a call from C": Plant(
         [before("capi", FROM_C, "    let whole = [0u8; 45];\n")],
         (held("capi::livomashen_read", "[u8; 45], 45 bytes"),
@@ -215,7 +217,8 @@ DEEP = {
         (held("field::kept", "[u8; 45], 45 bytes"),
          "field::kept: its arrays are")),
     "in a function that no call of the reading reaches": Plant(
-        [before("store", "    begin(rec, out);", "    let whole = [0u8; 45];\n")], ()),
+        [before("store", "    begin(rec, sums::rows(s), out);", "    let whole = [0u8; 45];\n")],
+        ()),
 }
 
 PIECES = {
@@ -286,10 +289,10 @@ SEARCH = {
         ("decode::decode: it is not reached",)),
     "sums with a byte more": Plant(
         [("sums", "lib", "    pub squared: u8,\n", "    pub squared: u8,\n    pub first: u8,\n"),
-         ("sums", "lib", "            squared: 0,\n",
-          "            squared: 0,\n            first: 0,\n"),
-         ("sums", "lib", "        once,\n        squared,\n",
-          "        once,\n        squared,\n        first: block[0],\n")],
+         ("sums", "lib", "        squared: 0,\n",
+          "        squared: 0,\n        first: 0,\n"),
+         ("sums", "lib", OF_BLOCK, "        first: block[0],\n" + OF_BLOCK),
+         ("sums", "lib", OF_RECORD, "        first: 0,\n" + OF_RECORD)],
         ("decode::decode: it is handed {'sums::Sums': 12, 'marks::Marks': 5}",)),
     "reading that is not followed": Plant(
         [behind("capi", "\n#[no_mangle]\npub extern \"C\" fn livomashen_peek(block: &mut [u8], "
@@ -341,11 +344,10 @@ TABLES = {
         ("code::labels: its result is [u8; 45], 45 bytes",)),
     "table with another name": Plant(
         [("sums", "words", "pub(crate) fn card_words(j", "pub(crate) fn words_of(j"),
-         ("sums", "lib", "words::card_words(j)", "words::words_of(j)")],
-        (held("sums::gather_card", "[u64; 9], 72 bytes"),
+         ("sums", "built_in", "words::card_words(j)", "words::words_of(j)")],
+        (held("sums::built_in::gather_card", "[u64; 9], 72 bytes"),
          held("sums::words::words_of", "[u64; 9], 72 bytes"),
          "sums::words::words_of: its result is [u64; 9], 72 bytes",
-         "sums::gather_card: its arrays are",
          "sums::words::card_words: it is not reached")),
     "copy of a table": Plant(
         [("decode", "lib", "            let labels = code::labels();\n"

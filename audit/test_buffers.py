@@ -43,7 +43,7 @@ class Source(unittest.TestCase):
         self.assertEqual(written - set(self.program.functions), set())
 
     def test_the_search_is_followed(self):
-        self.assertLessEqual({"sums::of_block", "sums::gather_card", "decode::no_marks",
+        self.assertLessEqual({"sums::of_block", "sums::built_in::gather_card", "decode::no_marks",
                               "decode::over_cards", "decode::beside_card",
                               "decode::equations::with_two", "change::apply",
                               "block::copy_block", "window::add", "bytes::copy",

@@ -20,7 +20,7 @@ from stated import state
 from statement import LINE, STATEMENT, THEOREM, is_proved, named
 
 TABLES = ["code::labels", "field::table::inverses_from", "slip::limits::behind",
-          "store::factors", "sums::words::card_words"]
+          "sums::words::card_words"]
 UNNAMED = f"; crates/{STATEMENT} does not name it"
 
 OUTPUT = "    let mut out = [0u8; "

@@ -1,5 +1,5 @@
-//! The benchmark's program: the library through its C interface, plain.rs and
-//! libfec's RS(45,34), in one process on the same records and damage.
+//! The benchmark's program: the library through its C interface, plain.rs, its calls
+//! in words and libfec's RS(45,34), in one process on the same records and damage.
 //!
 //!   bench times             a line for each case and codec: median time
 //!   bench count CASE CODEC  each input of the case once, for callgrind
@@ -29,13 +29,14 @@ mod fec;
 mod plainly;
 
 use cases::{reading, slip_of, Case, Input, What, CASES, NO_MARKS};
-use codecs::{codecs, Codec, Window};
+use codecs::{codecs, Codec, Registers, Window};
 use random::Random;
 use std::hint::black_box;
 use std::time::Instant;
 
 const BLOCK: usize = 45;
 const RECORD: usize = 34;
+const FRESH_REGISTERS: Registers = [0, 0, 0, 0, 0, 0, 0, 0, 255, 0, 255, 255];
 
 /// A case made ready for one codec.
 struct Ready<'a> {
@@ -48,6 +49,8 @@ struct Ready<'a> {
     damaged: Vec<u8>,
     /// What gets and patrols add to.
     window: Window,
+    /// What a get by command goes by: the block number is put there first.
+    registers: Registers,
     /// For each input of a proposal, a full window.
     windows: Vec<Window>,
     /// For each input, a reading's code and its slip.
@@ -59,9 +62,9 @@ fn ready<'a>(case: &Case, codec: &'a Codec) -> Ready<'a> {
     let mut rng = Random(case.seed.bytes().map(u64::from).sum());
     let mut inputs = Vec::new();
     let mut bank = vec![0; BLOCK * case.inputs];
-    for block in bank.chunks_exact_mut(BLOCK) {
+    for (k, block) in bank.chunks_exact_mut(BLOCK).enumerate() {
         let record = std::array::from_fn(|_| rng.next() as u8);
-        let (damage, marks) = (case.make)(&mut rng);
+        let (damage, marks) = case.make(k, &mut rng);
         if case.what != What::Store {
             // Not there: callgrind would count these stores as well.
             codec.store(&record, block);
@@ -92,6 +95,7 @@ fn ready<'a>(case: &Case, codec: &'a Codec) -> Ready<'a> {
         damaged: bank.clone(),
         bank,
         window: [255; 64],
+        registers: FRESH_REGISTERS,
         windows,
         slips,
     }
@@ -105,6 +109,20 @@ fn full_window(rng: &mut Random) -> Window {
 fn to_propose(window: &Window) -> u8 {
     let often = |&p: &u8| window.iter().filter(|&&held| held == p).count() >= 4;
     (0..BLOCK as u8).find(often).unwrap_or(255)
+}
+
+/// Where a report's code counts a block with such damage and nothing marked.
+fn total(damage: &[u8; BLOCK]) -> u32 {
+    let bad = |p: &usize| damage[*p] != 0;
+    let mut cards: Vec<usize> = (0..BLOCK).filter(bad).map(|p| p / 9).collect();
+    let chips = cards.len();
+    cards.dedup();
+    match (chips, cards.len()) {
+        (0, _) => 8,
+        (1, _) => 19,
+        (_, 1) => 30,
+        _ => 41,
+    }
 }
 
 impl Ready<'_> {
@@ -133,9 +151,16 @@ impl Ready<'_> {
         let (input, slip) = (&self.inputs[k], &self.slips[k]);
         let code = match self.what {
             What::Store => self.codec.store(black_box(&input.record), out),
+            What::Put => self.codec.put(&mut self.bank, k, black_box(&input.record)),
             What::Get => {
                 let bank = black_box(&self.bank);
                 self.codec.get(bank, k, &input.marks, out, &mut self.window)
+            }
+            What::CommandGet => {
+                self.registers[1..3].copy_from_slice(&(k as u16).to_le_bytes());
+                let (registers, bank) = (&mut self.registers, &mut self.bank);
+                self.codec
+                    .command_get(registers, bank, out, &mut self.window)
             }
             What::Patrol => {
                 let (bank, window) = (&mut self.bank, &mut self.window);
@@ -155,8 +180,9 @@ impl Ready<'_> {
     fn check(&mut self) {
         if self.what == What::Report {
             let code = self.codec.report(&self.bank, &NO_MARKS);
-            let clean = self.inputs.len() as u64;
-            assert_eq!(code, clean << 8, "{}: report", self.codec.name);
+            let counted = self.inputs.iter().map(|input| 1 << total(&input.damage));
+            let wanted: u64 = counted.sum();
+            assert_eq!(code, wanted, "{}: report", self.codec.name);
             return;
         }
         for k in 0..self.inputs.len() {
@@ -171,6 +197,12 @@ impl Ready<'_> {
                     assert_eq!(code, chip << 8, "{}: {k}", self.codec.name);
                 }
                 What::WriteSlip | What::ReadSlip => self.check_slip(k, code, &out),
+                What::CommandGet => {
+                    // Done and clean: the command, its answer, bit 0 pending.
+                    let [command, _, _, _, answer, detail, _, pending, ..] = self.registers;
+                    assert_eq!([command, answer, detail, pending], [1, 0, 0, 1], "{k}");
+                    self.check_done(k, number, &out);
+                }
                 _ => self.check_done(k, number, &out),
             }
         }
@@ -209,7 +241,7 @@ impl Ready<'_> {
         let (name, input) = (self.codec.name, &self.inputs[k]);
         assert_eq!(number, 0, "{name}: input {k} is refused");
         let given = match self.what {
-            What::Patrol => self.block(k),
+            What::Put | What::Patrol => self.block(k),
             _ => out,
         };
         assert_eq!(given[..RECORD], input.record, "{name}: input {k}");
@@ -228,6 +260,8 @@ impl Ready<'_> {
 fn takes_part(case: &Case, codec: &Codec) -> bool {
     match case.what {
         What::ReadAny | What::ReadNone => codec.name != "fec",
+        What::Report => case.every == 1 || codec.name != "fec",
+        What::CommandGet => codec.write_register.is_some(),
         What::Propose | What::WriteSlip | What::ReadSlip => codec.beyond.is_some(),
         _ => true,
     }

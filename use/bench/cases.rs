@@ -16,18 +16,22 @@ pub struct Input {
 #[derive(Clone, Copy, PartialEq)]
 pub enum What {
     Store,
+    Put,
     Read,
     /// A read whose answer is any; libfec has no such reading.
     ReadAny,
     /// A read that no record fits; libfec reads beyond document 01's table.
     ReadNone,
     Get,
+    /// A get by command; only the library has registers.
+    CommandGet,
     Patrol,
-    /// A proposal from a full window; libfec has none, and no slips.
+    /// A proposal from a full window; libfec has none, and no slips, and those in
+    /// words are plain.rs's.
     Propose,
     WriteSlip,
     ReadSlip,
-    /// One report over clean blocks; times and counts are for a block.
+    /// One report over all blocks; times and counts are for a block.
     Report,
 }
 
@@ -36,8 +40,10 @@ impl What {
     pub fn call(self) -> &'static str {
         match self {
             What::Store => "store",
+            What::Put => "put",
             What::Read | What::ReadAny | What::ReadNone => "read",
             What::Get => "get",
+            What::CommandGet => "write_register",
             What::Patrol => "patrol",
             What::Propose => "propose",
             What::WriteSlip => "write_slip",
@@ -53,7 +59,18 @@ pub struct Case {
     pub seed: &'static str,
     pub what: What,
     pub inputs: usize,
+    /// Damage and marks of one block in so many; the others are clean.
+    pub every: usize,
     pub make: Make,
+}
+
+impl Case {
+    pub fn make(&self, k: usize, rng: &mut Random) -> ([u8; BLOCK], [u8; 4]) {
+        match k % self.every {
+            0 => (self.make)(rng),
+            _ => nothing(rng),
+        }
+    }
 }
 
 pub const NO_MARKS: [u8; 4] = [255, 0, 255, 255];
@@ -105,6 +122,17 @@ fn two_chips_of_two_cards(rng: &mut Random) -> ([u8; BLOCK], [u8; 4]) {
     damage[9 * card + rng.below(9)] = rng.change();
     damage[9 * ((card + 1 + rng.below(4)) % 5) + rng.below(9)] = rng.change();
     (damage, NO_MARKS)
+}
+
+/// Any bytes, for a put to write over.
+fn every_chip(rng: &mut Random) -> ([u8; BLOCK], [u8; 4]) {
+    (std::array::from_fn(|_| rng.byte()), NO_MARKS)
+}
+
+/// What a report counts as chips, as a card or as none.
+fn chip_card_or_none(rng: &mut Random) -> ([u8; BLOCK], [u8; 4]) {
+    let make = [one_chip, one_card, two_chips_of_two_cards][rng.below(3)];
+    make(rng)
 }
 
 /// Damage of every sort under every shape of lawful marks.
@@ -167,6 +195,7 @@ const fn case(name: &'static str, what: What, inputs: usize, make: Make) -> Case
         seed: name,
         what,
         inputs,
+        every: 1,
         make,
     }
 }
@@ -179,10 +208,12 @@ const fn chip_case(name: &'static str, what: What) -> Case {
     }
 }
 
-pub const CASES: [Case; 18] = [
+pub const CASES: [Case; 21] = [
     case("store", What::Store, INPUTS, nothing),
+    case("put", What::Put, INPUTS, every_chip),
     case("read-clean", What::Read, INPUTS, nothing),
     case("get-clean", What::Get, INPUTS, nothing),
+    case("get-register", What::CommandGet, INPUTS, nothing),
     case("patrol-clean", What::Patrol, INPUTS, nothing),
     chip_case("read-chip", What::Read),
     chip_case("get-chip", What::Get),
@@ -208,4 +239,8 @@ pub const CASES: [Case; 18] = [
     case("patrol-1024", What::Patrol, 1024, nothing),
     case("report-256", What::Report, 256, nothing),
     case("report-1024", What::Report, 1024, nothing),
+    Case {
+        every: 24,
+        ..case("report-mixed", What::Report, 1024, chip_card_or_none)
+    },
 ];

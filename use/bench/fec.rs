@@ -40,6 +40,18 @@ pub unsafe extern "C" fn fec_store(rec: *const u8, _: usize, out: *mut u8, _: us
     0
 }
 
+#[no_mangle]
+#[inline(never)]
+pub unsafe extern "C" fn fec_put(
+    bank: *mut u8,
+    _: usize,
+    k: usize,
+    rec: *const u8,
+    rec_len: usize,
+) -> u32 {
+    unsafe { fec_store(rec, rec_len, bank.add(BLOCK * k), BLOCK) }
+}
+
 /// Decodes a copy of the block with these places erased; gives libfec's
 /// number of changed places, and their positions in `places`.
 unsafe fn decode(block: *const u8, out: *mut u8, places: &mut [i32; 11], count: usize) -> i32 {

@@ -1,4 +1,4 @@
-"""Runs the benchmark's program and makes its page: two tables and a legend.
+"""Runs the benchmark's program and makes its page: three tables and a legend.
 Called by use/bench/run.
 
 Usage: table.py PROGRAM LIBRARY_NOTE FEC_NOTE [FILE]
@@ -15,29 +15,37 @@ import tempfile
 import textwrap
 from pathlib import Path
 
-# Case, its words, and the mean and the most instructions for a block that
-# livomashen is to reach; None where no figure is set.
+# Case, its words, and what livomashen is to reach: the mean instructions for a
+# block and, where it is set, the most; nothing where no figure is set.
 CASES = {
-    "store": ("store", (450, 450)),
-    "read-clean": ("read, clean", (400, 400)),
-    "get-clean": ("get, clean", (420, 420)),
-    "patrol-clean": ("patrol, clean", (390, 390)),
-    "read-chip": ("bad chip", (950, 1250)),
-    "get-chip": ("get, bad chip", None),
-    "patrol-chip": ("patrol, bad chip", None),
-    "read-card": ("bad card", (1100, 1100)),
-    "read-marked-card-and-chip": ("card* and chip", (1250, 1600)),
-    "read-two-marked-chips": ("two chips*", (1300, 1450)),
-    "read-none": ("none", None),
-    "read-any": ("any damage", (1200, 2700)),
-    "propose": ("propose", None),
-    "write-slip": ("write slip", None),
-    "read-slip": ("read slip", None),
-    "patrol-1024": ("patrol, 1,024", (390, 390)),
-    "report-256": ("report, 256", (300, 300)),
-    "report-1024": ("report, 1,024", (300, 300)),
+    "store": ("store", (240,)),
+    "put": ("put", ()),
+    "read-clean": ("read, clean", (230,)),
+    "get-clean": ("get, clean", (290,)),
+    "get-register": ("get, register", ()),
+    "patrol-clean": ("patrol, clean", (275,)),
+    "read-chip": ("bad chip", (550,)),
+    "get-chip": ("get, chip", (730,)),
+    "patrol-chip": ("patrol, chip", ()),
+    "read-card": ("bad card", (650,)),
+    "read-marked-card-and-chip": ("card* and chip", (890,)),
+    "read-two-marked-chips": ("two chips*", (1000,)),
+    "read-none": ("none", (600,)),
+    "read-any": ("any damage", (960, 2180)),
+    "propose": ("propose", (320,)),
+    "write-slip": ("write slip", ()),
+    "read-slip": ("read slip", ()),
+    "patrol-1024": ("patrol, 1,024", (275,)),
+    "report-256": ("report, 256", (90,)),
+    "report-1024": ("report, 1,024", (90,)),
+    "report-mixed": ("report, mixed", (120,)),
 }
-CODECS = {"livomashen": "livomashen", "plain": "plain Rust", "fec": "libfec"}
+FULL_BANK = "patrol-1024", "report-1024"
+BLOCK = 45
+CODECS = {"livomashen": "livomashen", "plain": "plain Rust",
+          "words": "in words", "fec": "libfec"}
+# With libfec's most as well, the table would be wider than a page.
+MEAN_ALONE = "fec",
 
 
 def output_of(*command):
@@ -84,14 +92,24 @@ def count_calls(program, case, codec, function):
 
 # ------------------------------------------------------------------ the tables
 
-def mean_and_most(pair):
-    """`1,487/1,786`, or one figure where both are the same."""
-    mean, most = (f"{part:,.0f}" for part in pair)
-    return mean if mean == most else f"{mean}/{most}"
+def mean_and_most(figures):
+    """`1,487/1,786`, or one figure where both are the same or only the mean is
+    there; `-` where nothing is."""
+    return "/".join(dict.fromkeys(f"{part:,.0f}" for part in figures)) or "-"
 
 
-def cell(found, key, words):
-    return words(found[key]) if key in found else "-"
+def count_cell(counted, case, codec):
+    figures = counted.get((case, codec), ())
+    return mean_and_most(figures[:1] if codec in MEAN_ALONE else figures)
+
+
+def time_cell(taken, case, codec, words="{:,.0f}".format):
+    return words(taken[case, codec]) if (case, codec) in taken else "-"
+
+
+def megabytes(nanoseconds):
+    """MB/s, by the time for a block."""
+    return f"{1000 * BLOCK / nanoseconds:,.0f}"
 
 
 def table(rows):
@@ -109,26 +127,33 @@ def table(rows):
 def instruction_table(counted):
     rows = [["case", *CODECS.values(), "to reach"]]
     for case, (words, limit) in CASES.items():
-        rows.append([words, *(cell(counted, (case, codec), mean_and_most)
-                              for codec in CODECS),
-                     mean_and_most(limit) if limit else "-"])
+        cells = [count_cell(counted, case, codec) for codec in CODECS]
+        rows.append([words, *cells, mean_and_most(limit)])
     return table(rows)
 
 
 def time_table(taken):
     rows = [["case", *CODECS.values()]]
     for case, (words, _) in CASES.items():
-        rows.append([words, *(cell(taken, (case, codec), "{:,.0f}".format)
+        rows.append([words, *(time_cell(taken, case, codec)
                               for codec in CODECS)])
+    return table(rows)
+
+
+def speed_table(taken):
+    rows = [["full bank", *CODECS.values()]]
+    for case in FULL_BANK:
+        call = case.partition("-")[0]
+        rows.append([call, *(time_cell(taken, case, codec, megabytes)
+                             for codec in CODECS)])
     return table(rows)
 
 
 def above(counted):
     """The cases in which livomashen takes more than it is to reach."""
     return [words for case, (words, limit) in CASES.items()
-            if limit and (case, "livomashen") in counted
-            and any(round(found) > most for found, most in
-                    zip(counted[case, "livomashen"], limit))]
+            if any(round(found) > most for found, most in
+                   zip(counted.get((case, "livomashen"), ()), limit))]
 
 
 def above_line(counted):
@@ -150,7 +175,7 @@ PAGE = """# Benchmark
 Made by `use/bench/run --write`: one process, the codecs taking turns on the
 same seeded records and damage.
 
-Instructions inside a call, mean/most over the inputs:
+Instructions inside a call, mean/most over the inputs, of libfec the mean:
 
 {instructions}
 
@@ -160,30 +185,40 @@ Nanoseconds for a call:
 
 {times}
 
-- store, read, get, patrol, report, propose, write slip, read slip: the
-  library's calls. Clean: no byte is bad.
+MB/s over a bank of 1,024 clean blocks, 46,080 bytes, by the times above:
+
+{speeds}
+
+- store, put, read, get, patrol, report, propose, write slip, read slip: the
+  library's calls. Clean: no byte is bad. put writes over other bytes. get,
+  register: a clean get by command, the block number already in place.
 - bad chip, bad card: a read with one chip, or all nine chips of one card, bad
   and nothing marked. A star is a mark: a marked card bad and a further chip;
   two marked chips bad. none: a read with chips of two cards bad and nothing
   marked, which no record fits.
-- get and patrol add the positions they change to the window. With a bad chip
-  they have the blocks of "bad chip", a read, which adds none. propose: from a
-  full window, nothing marked. Slips are of readings of every kind.
+- get and patrol add the positions they change to the window. get, chip and
+  patrol, chip have the blocks of "bad chip", a read, which adds none. propose:
+  from a full window, nothing marked. Slips are of readings of every kind.
 - any damage: reads of random bytes, cards, chips and damage that fits every
-  card, under every shape of lawful marks, so "none" and "several" too. libfec
-  has neither this nor "none", nor proposals and slips; its gets and patrols
-  add to the window as those of plain Rust do.
-- 256 and 1,024: a bank of so many clean blocks, patrolled or reported whole;
-  figures are for a block.
+  card, under every shape of lawful marks, so "none" and "several" too.
+- 256 and 1,024: a bank of so many clean blocks, patrolled or reported whole.
+  mixed: 1,024 blocks of which one in 24 is damaged, in one chip, in a card or
+  in chips of two cards. Figures are for a block.
 - Instructions are callgrind's, over 64 inputs (8,192 for any damage). Where
-  mean and most are the same there is one figure. To reach: the most that
-  livomashen is to take.
+  mean and most are the same there is one figure. To reach: the limit of
+  livomashen's mean and, after a stroke, of its most.
 - Times are the median of 151 rounds. Compare them within a row: from run to
   run the machine's speed varies.
 - livomashen is called through its C interface. plain Rust is
-  use/rust/plain.rs, ordinary tables, no proofs. libfec is Debian's RS(45,34)
-  over the same field: marks are erasures; an unknown card is sought by a
-  decoding without erasures, then by erasing each of the five cards in turn.
+  use/rust/plain.rs, ordinary tables, no proofs. in words is the same once
+  more, use/rust/plain/words.rs, safe Rust written for speed: words of 64 bits
+  whose eight bytes are doubled at once, and no table for the sums; its
+  proposals and slips are those of plain Rust. Neither has registers.
+- libfec is Debian's RS(45,34) over the same field: marks are erasures; an
+  unknown card is sought by a decoding without erasures, then by erasing each
+  of the five cards in turn. It has no "none", "any damage" or mixed report,
+  no proposals, slips or registers; its gets and patrols add to the window as
+  those of plain Rust do.
 - Outputs are used again and not cleared between calls. Inputs are in cache.
 
 Processor: {processor}.
@@ -196,7 +231,8 @@ def page(taken, counted, notes):
     said = "".join(f"{note[0].upper()}{note[1:]}.\n" for note in notes)
     return PAGE.format(
         instructions=instruction_table(counted), above=above_line(counted),
-        times=time_table(taken), processor=processor(),
+        times=time_table(taken), speeds=speed_table(taken),
+        processor=processor(),
         rustc=output_of("rustc", "--version").strip(), notes=said)
 
 

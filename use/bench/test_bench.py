@@ -14,7 +14,7 @@ from kit import KIT, ROOT, InFolder, needs, run, try_run      # noqa: E402
 
 # As many digits as the codecs take: libfec's are what it took for a card.
 LONGEST = {"livomashen": (9_998, 9_999), "plain": (9_998, 9_999),
-           "fec": (212_854, 275_544)}
+           "words": (998, 9_999), "fec": (212_854, 275_544)}
 
 
 class Tables(unittest.TestCase):
@@ -28,27 +28,53 @@ class Tables(unittest.TestCase):
         self.assertTrue(page.endswith("A note.\n"))
 
     def test_one_column_a_codec_and_one_row_a_case(self):
-        for made, columns in ((table.instruction_table(self.counted), 5),
-                              (table.time_table(self.taken), 4)):
+        for made, columns, cases in (
+                (table.instruction_table(self.counted), 6, table.CASES),
+                (table.time_table(self.taken), 5, table.CASES),
+                (table.speed_table(self.taken), 5, table.FULL_BANK)):
             rows = made.splitlines()
-            self.assertEqual(len(rows), 2 + len(table.CASES))
+            self.assertEqual(len(rows), 2 + len(cases))
             self.assertEqual({row.count("|") for row in rows}, {columns + 1})
 
+    @staticmethod
+    def cells(made):
+        """The cells after each row's first, by it."""
+        rows = (re.split(r"\s*\|\s*", row)[1:-1] for row in made.splitlines())
+        return {first: others for first, *others in rows}
+
     def test_cells(self):
-        counted = {("store", "plain"): (837.6, 838.4), ("read-chip", "plain"): (7, 9)}
-        rows = table.instruction_table(counted).splitlines()
-        self.assertEqual(re.split(r"\s*\|\s*", rows[2])[1:-1],
-                         ["store", "-", "838", "-", "450"])
-        self.assertEqual(re.split(r"\s*\|\s*", rows[6])[1:-1],
-                         ["bad chip", "-", "7/9", "-", "950/1,250"])
+        counted = {("store", "plain"): (837.6, 838.4),
+                   ("read-chip", "plain"): (7, 9), ("read-chip", "words"): (6, 8),
+                   ("read-chip", "fec"): (1000, 2000)}
+        cells = self.cells(table.instruction_table(counted))
+        self.assertEqual(cells["case"], ["livomashen", "plain Rust", "in words",
+                                         "libfec", "to reach"])
+        self.assertEqual(cells["store"], ["-", "838", "-", "-", "240"])
+        self.assertEqual(cells["put"], ["-", "-", "-", "-", "-"])
+        self.assertEqual(cells["bad chip"], ["-", "7/9", "6/8", "1,000", "550"])
+        self.assertEqual(cells["any damage"], ["-", "-", "-", "-", "960/2,180"])
+
+    def test_speeds(self):
+        # A block of 45 bytes in 45 ns is 1 GB/s.
+        taken = {("patrol-1024", "words"): 45.0, ("report-1024", "words"): 10.0,
+                 ("report-1024", "fec"): 450.0, ("report-256", "plain"): 45.0}
+        cells = self.cells(table.speed_table(taken))
+        self.assertEqual(cells["patrol"], ["-", "-", "1,000", "-"])
+        self.assertEqual(cells["report"], ["-", "-", "4,500", "100"])
 
     def test_above_what_is_to_reach(self):
-        reached = {(case, "livomashen"): limit or (1, 1)
+        # Where only the mean is set, any input may take more.
+        reached = {(case, "livomashen"): (*limit, 9_999)[:2]
                    for case, (_, limit) in table.CASES.items()}
         self.assertIn("no case", table.above_line(reached))
-        reached["read-chip", "livomashen"] = (950, 1251)
-        reached["store", "livomashen"] = (451, 451)
-        self.assertEqual(table.above(reached), ["store", "bad chip"])
+        reached["store", "livomashen"] = (240.4, 9_999)
+        reached["read-any", "livomashen"] = (960, 2_180.4)
+        self.assertEqual(table.above(reached), [])
+        reached["store", "livomashen"] = (241, 241)
+        reached["read-any", "livomashen"] = (960, 2_181)
+        self.assertEqual(table.above(reached), ["store", "any damage"])
+        reached["read-any", "livomashen"] = (961, 2_180)
+        self.assertEqual(table.above(reached), ["store", "any damage"])
         self.assertIn("not counted", table.above_line({}))
 
 
@@ -69,9 +95,12 @@ class Program(InFolder):
         made = self.compiled("-L", f"native={KIT}", "-l", "static=livomashen")
         # The program checks every answer before it takes a time.
         lines = [line.split() for line in run(made, "times").splitlines()]
+        lacking = {("get-register", "plain"), ("get-register", "words"),
+                   ("propose", "words"), ("write-slip", "words"),
+                   ("read-slip", "words")}
         self.assertEqual({(case, codec) for case, codec, _ in lines},
                          {(case, codec) for case in table.CASES
-                          for codec in ("livomashen", "plain")})
+                          for codec in table.CODECS if codec != "fec"} - lacking)
         listed = [line.split()[0] for line in run(made, "list").splitlines()]
         self.assertEqual(list(dict.fromkeys(listed)), list(table.CASES))
         run(made, "count", "read-none", "livomashen")
@@ -118,7 +147,7 @@ class Options(InFolder):
 
     def test_without_options(self):
         said, noted = self.bench()
-        self.assertIn("\n| store            |          - |          5 |      - |\n", said)
+        self.assertRegex(said, r"\n\| store +\| +- \| +5 \| +- \| +- \|\n")
         self.assertIn("Livomashen: library not built (use/build builds it).\n", said)
         self.assertIn("Libfec: not installed", said)
         self.assertNotIn("--cfg library", noted)

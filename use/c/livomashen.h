@@ -32,8 +32,8 @@ extern "C" {
 /* The version: another MAJOR may need changes in a program that uses it. */
 #define LIVOMASHEN_VERSION_MAJOR 2
 #define LIVOMASHEN_VERSION_MINOR 4
-#define LIVOMASHEN_VERSION_PATCH 0
-#define LIVOMASHEN_VERSION "2.4.0"
+#define LIVOMASHEN_VERSION_PATCH 1
+#define LIVOMASHEN_VERSION "2.4.1"
 
 /* Sizes. */
 enum {

@@ -39,6 +39,14 @@ def store_case(rng):
     return line, f"{answer.number} {output.hex()}"
 
 
+def put_case(rng):
+    _, bank, k, _ = any_block(rng)
+    record = rng.randbytes(any_length(rng, ref.RECORD))
+    line = f"put {word(bank)} {k} {word(record)}"
+    answer = ref.put(bank, k, record)
+    return line, f"{answer.number} {bank.hex()}"
+
+
 def told(answer, *after):
     """The answer, and the bytes after it."""
     return " ".join((*map(str, answer), *(part.hex() for part in after)))
@@ -137,9 +145,10 @@ def cases(rng, count):
     for _, _, marks, block in damage.every_pair(rng):
         yield read_case(rng, marks, block)
     for _ in range(count):
-        make = rng.choices([store_case, read_case, get_case, patrol_case,
-                            propose_case, report_case, write_slip_case,
-                            read_slip_case], [3, 8, 2, 2, 4, 1, 2, 4])[0]
+        make = rng.choices([store_case, put_case, read_case, get_case,
+                            patrol_case, propose_case, report_case,
+                            write_slip_case, read_slip_case],
+                           [3, 1, 8, 2, 2, 4, 1, 2, 4])[0]
         yield make(rng)
 
 

@@ -1,14 +1,18 @@
-//! The call memory of document 01 in plain Rust: storing, reading, report; get,
+//! The call memory of document 01 in plain Rust: storing, put, reading, report; get,
 //! patrol and proposal with order 2's window; and order 8's slips.
 //!
 //! Written from documents 01 and 02 for comparison and as the benchmark's baseline.
 //! Ordinary tables of powers and logarithms, no proofs; the shipped library
-//! is the proved one.
+//! is the proved one.  plain/words.rs has the calls once more, written for speed.
 
 #[path = "plain/slips.rs"]
 pub mod slips;
 #[path = "plain/window.rs"]
 pub mod window;
+#[path = "plain/words.rs"]
+pub mod words;
+
+use std::ops::Range;
 
 pub const CARDS: usize = 5;
 pub const CHIPS: usize = 9;
@@ -46,6 +50,19 @@ pub struct Totals {
     pub card: u16,
     pub none: u16,
     pub several: u16,
+}
+
+impl Totals {
+    fn count(&mut self, answer: Answer) {
+        let total = match answer {
+            Answer::Clean => &mut self.clean,
+            Answer::Chips { .. } => &mut self.chips,
+            Answer::Card { .. } => &mut self.card,
+            Answer::Several { .. } => &mut self.several,
+            Answer::None | Answer::Refused(_) => &mut self.none,
+        };
+        *total += 1;
+    }
 }
 
 // ------------------------------------------------------------------ the field
@@ -183,20 +200,29 @@ fn card_change(s: &Sums, j: usize, further: &[(usize, u8)]) -> Change {
     change
 }
 
+/// The value at the one chip off the card, which is seen as d, from the label
+/// sums without the card; None where they don't fit.
+fn one_off((t1, t2): (u8, u8), d: u8) -> Option<u8> {
+    (t2 == times(d, t1)).then(|| over(t1, d))
+}
+
+/// The values at two chips off the card, which are seen as d and f.
+fn two_off((t1, t2): (u8, u8), d: u8, f: u8) -> (u8, u8) {
+    (
+        over(t2 ^ times(f, t1), times(d, d ^ f)),
+        over(t2 ^ times(d, t1), times(f, d ^ f)),
+    )
+}
+
 /// The only change in card j and these chips off it, at most two, that makes
 /// the block lawful.
 fn solve(s: &Sums, j: usize, off: &[usize]) -> Option<Change> {
-    let (t1, t2) = without_card(s, j);
+    let t = without_card(s, j);
     match *off {
-        [] => (t1 == 0 && t2 == 0).then(|| card_change(s, j, &[])),
-        [p] => {
-            let d = seen_from(j, p);
-            (t2 == times(d, t1)).then(|| card_change(s, j, &[(p, over(t1, d))]))
-        }
+        [] => (t == (0, 0)).then(|| card_change(s, j, &[])),
+        [p] => one_off(t, seen_from(j, p)).map(|at_p| card_change(s, j, &[(p, at_p)])),
         [p, q] => {
-            let (d, f) = (seen_from(j, p), seen_from(j, q));
-            let at_p = over(t2 ^ times(f, t1), times(d, d ^ f));
-            let at_q = over(t2 ^ times(d, t1), times(f, d ^ f));
+            let (at_p, at_q) = two_off(t, seen_from(j, p), seen_from(j, q));
             Some(card_change(s, j, &[(p, at_p), (q, at_q)]))
         }
         _ => None,
@@ -263,15 +289,23 @@ impl Marks {
         self.chips().contains(&p)
     }
 
-    /// The change in card j and the marked chips.
-    fn solve(&self, s: &Sums, j: usize) -> Option<Change> {
+    /// The marked chips off card j: two places, and how many of them count.
+    fn off(&self, j: usize) -> ([usize; 2], usize) {
         let on_card = |p: usize| p / CHIPS == j;
         match *self.chips() {
-            [p, q] if !on_card(p) && !on_card(q) => solve(s, j, &[p, q]),
-            [p, q] if !on_card(p) && on_card(q) => solve(s, j, &[p]),
-            [p, q] if on_card(p) && !on_card(q) => solve(s, j, &[q]),
-            [p] if !on_card(p) => solve(s, j, &[p]),
-            _ => solve(s, j, &[]),
+            [p, q] if !on_card(p) && !on_card(q) => ([p, q], 2),
+            [p, q] if !on_card(p) && on_card(q) => ([p, q], 1),
+            [p, q] if on_card(p) && !on_card(q) => ([q, p], 1),
+            [p] if !on_card(p) => ([p, p], 1),
+            _ => ([0, 0], 0),
+        }
+    }
+
+    /// The change in card j and the marked chips.
+    fn solve(&self, s: &Sums, j: usize) -> Option<Change> {
+        match self.off(j) {
+            (_, 0) => solve(s, j, &[]),
+            (places, count) => solve(s, j, &places[..count]),
         }
     }
 }
@@ -368,25 +402,30 @@ pub fn store(record: &[u8], output: &mut [u8]) -> Result<(), u8> {
     Ok(())
 }
 
+/// A block and an output for it, each of its length.  Err: 1 or 2.
+fn lent<'a>(
+    block: &'a [u8],
+    output: &'a mut [u8],
+) -> Result<(&'a [u8; BLOCK], &'a mut [u8; BLOCK]), u8> {
+    let block = block.try_into().map_err(|_| 1)?;
+    Ok((block, output.try_into().map_err(|_| 2)?))
+}
+
 /// Reads a block; the output is written only when the block is corrected.
 pub fn read(block: &[u8], marks: &[u8], output: &mut [u8]) -> Answer {
-    let Ok(block) = <&[u8; BLOCK]>::try_from(block) else {
-        return Answer::Refused(1);
-    };
-    let Ok(output) = <&mut [u8; BLOCK]>::try_from(output) else {
-        return Answer::Refused(2);
-    };
-    let marks = match Marks::open(marks) {
-        Ok(marks) => marks,
-        Err(number) => return Answer::Refused(number),
-    };
+    read_lent(block, marks, output).unwrap_or_else(Answer::Refused)
+}
+
+fn read_lent(block: &[u8], marks: &[u8], output: &mut [u8]) -> Result<Answer, u8> {
+    let (block, output) = lent(block, output)?;
+    let marks = Marks::open(marks)?;
     let (answer, change) = look(block, &marks);
     if let Some(change) = change {
         for p in 0..BLOCK {
             output[p] = block[p] ^ change[p];
         }
     }
-    answer
+    Ok(answer)
 }
 
 /// How many blocks a bank has.  Err: 4.
@@ -398,25 +437,45 @@ fn blocks_of(bank: &[u8]) -> Result<usize, u8> {
     Ok(blocks)
 }
 
+/// Where block k lies in a bank.  Err: 4 or 5.
+fn place(bank: &[u8], k: usize) -> Result<Range<usize>, u8> {
+    if k < blocks_of(bank)? {
+        Ok(BLOCK * k..BLOCK * (k + 1))
+    } else {
+        Err(5)
+    }
+}
+
+/// Where block k lies, for a record of the right length.  Err: 3, 4 or 5.
+fn place_for(record: &[u8], bank: &[u8], k: usize) -> Result<Range<usize>, u8> {
+    if record.len() != RECORD {
+        return Err(3);
+    }
+    place(bank, k)
+}
+
+/// Stores a record as block k of a bank.  Err: 3, 4 or 5.
+pub fn put(bank: &mut [u8], k: usize, record: &[u8]) -> Result<(), u8> {
+    let place = place_for(record, bank, k)?;
+    store(record, &mut bank[place])
+}
+
+/// Counts the blocks of a bank by what is said of each.
+fn count(bank: &[u8], say: impl Fn(&[u8; BLOCK]) -> Answer) -> Totals {
+    let mut totals = Totals::default();
+    for block in bank.chunks_exact(BLOCK) {
+        if let Ok(block) = block.try_into() {
+            totals.count(say(block));
+        }
+    }
+    totals
+}
+
 /// Counts the blocks of a bank by their readings.  Err: 4, 6 or 7.
 pub fn report(bank: &[u8], marks: &[u8]) -> Result<Totals, u8> {
     blocks_of(bank)?;
     let marks = Marks::open(marks)?;
-    let mut totals = Totals::default();
-    for block in bank.chunks_exact(BLOCK) {
-        let Ok(block) = block.try_into() else {
-            continue;
-        };
-        let total = match look(block, &marks).0 {
-            Answer::Clean => &mut totals.clean,
-            Answer::Chips { .. } => &mut totals.chips,
-            Answer::Card { .. } => &mut totals.card,
-            Answer::Several { .. } => &mut totals.several,
-            Answer::None | Answer::Refused(_) => &mut totals.none,
-        };
-        *total += 1;
-    }
-    Ok(totals)
+    Ok(count(bank, |block| look(block, &marks).0))
 }
 
 /// The number of refusal of a mark record, 0 if it is lawful.

@@ -1,9 +1,9 @@
 //! Runs plain.rs on cases from standard input, one a line, for check_plain.py.
 //!
-//! `store RECORD OUTLEN`, `read BLOCK MARKS OUTLEN`, `report BANK MARKS`,
-//! `get BANK K MARKS OUTLEN WINDOW`, `patrol BANK K MARKS WINDOW`, `propose WINDOW
-//! MARKS`, `write_slip SLIPS AT K NUMBER KIND CARD N` and `read_slip SLIPS AT`, with
-//! bytes in hexadecimal and `-` for an empty slice.  The output starts as OUTLEN
+//! `store RECORD OUTLEN`, `put BANK K RECORD`, `read BLOCK MARKS OUTLEN`, `report BANK
+//! MARKS`, `get BANK K MARKS OUTLEN WINDOW`, `patrol BANK K MARKS WINDOW`, `propose
+//! WINDOW MARKS`, `write_slip SLIPS AT K NUMBER KIND CARD N` and `read_slip SLIPS AT`,
+//! with bytes in hexadecimal and `-` for an empty slice.  The output starts as OUTLEN
 //! bytes 0xA5.  Prints what was said, then in hexadecimal what may have been
 //! written: output, bank or slips, and window.
 
@@ -69,6 +69,11 @@ fn run(words: &[&str]) -> String {
             let mut out = output(length);
             let number = plain::store(&bytes(record), &mut out).err().unwrap_or(0);
             format!("{number} {}", hex(&out))
+        }
+        ["put", bank, k, record] => {
+            let mut bank = bytes(bank);
+            let done = plain::put(&mut bank, number(k), &bytes(record));
+            format!("{} {}", done.err().unwrap_or(0), hex(&bank))
         }
         ["read", block, marks, length] => {
             let mut out = output(length);

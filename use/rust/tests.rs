@@ -5,8 +5,9 @@
 //! rustc -O --edition 2021 --test -L DIR -l static=livomashen tests.rs
 
 mod livomashen;
+#[allow(dead_code)] // the benchmark uses the rest of both
 mod plain;
-#[allow(dead_code)] // the benchmark uses the rest
+#[allow(dead_code)]
 mod random;
 
 #[path = "tests/commands.rs"]

@@ -6,6 +6,7 @@
 --   ..-done        a call on block k, from what the call on that block says
 --   patrol-unread  a patrol that corrects nothing leaves the bank as it was
 --   no-blocks, one-more, report-done   what the report's loop has counted; total-le, class-below: within its limits
+--   looked         block k, looked at
 use mathlib.Core.Logic.{_≢_, _⊎_, inl, inr}
 use mathlib.Core.Path.{_≡_, refl, sym, ap, ap₂, _∙_, subst}
 use mathlib.Core.Bool.{true, false}

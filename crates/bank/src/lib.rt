@@ -1,6 +1,6 @@
 // A bank of blocks in lent bytes: clear, put, get, patrol, and a report over it.
 ghost use mathlib.Core.Path.{_≡_};
-ghost use Prim.Native.Nat.{_/_, _≤_, _<_};
+ghost use Prim.Native.Nat.{_+_, _*_, _/_, _≤_, _<_};
 ghost use lib.ListN.{length, replicate};
 ghost use Rattle.answer.specs.Answer.{outcome-answer};
 ghost use Rattle.answer.specs.Cause.{lowest};
@@ -8,7 +8,7 @@ ghost use Rattle.marks.specs.Marks.{marks-cause};
 ghost use Rattle.reading.specs.Reading.{reading-answer};
 ghost use Rattle.reading.specs.declared.Reading.the-variants.{Corrected};
 ghost use Rattle.bank.specs.Calls.{blocks, size-causes, place-causes, ClearDone, PutDone, GetDone, PatrolDone, ReportDone, class, report-answer};
-ghost use Rattle.bank.specs.Count.{CountedBlocks};
+ghost use Rattle.bank.specs.Count.{LeftFrom, ClassAt, CountedBlocks};
 
 // How many blocks read as each.
 pub struct Totals {
@@ -150,6 +150,34 @@ fn class_of(r: reading::Reading) -> usize
     }
 }
 
+// Which of the four blocks from block k on are to be looked at, a digit each: those that don't read as clean, and all where there are
+// not four. The 180 bytes are cut out here: cut out further down, they would not be gone through two blocks at once.
+fn left_from(bank: &[u8], k: usize) -> u64
+    requires { ⌜ k < 1024 ⌝ }
+    ensures { λ r. ⌜ LeftFrom (now (bank .entry)) k 4 r × (now (bank .exit) ≡ now (bank .entry)) ⌝ }
+{
+    let at = 45 * k;
+    let end = at + 180;
+    if bank.len() < end {
+        return 15;
+    }
+    block::four_unclean(&bank[at..end])
+}
+
+// Where block k is counted. It is looked at only where it is not known to be clean.
+fn class_at(bank: &[u8], k: usize, m: marks::Marks, left: u64) -> usize
+    requires { ⌜ (45 * k + 45 ≤ length (now bank)) × (length (now bank) ≤ 46080) × (marks-cause m ≡ 0) × LeftFrom (now bank) k 1 left ⌝ }
+    ensures { λ i. ⌜ ClassAt (now (bank .entry)) k m i × (now (bank .exit) ≡ now (bank .entry)) ⌝ }
+{
+    if left % 2 == 0 {
+        return 0;
+    }
+    let at = 45 * k;
+    let end = at + 45;
+    class_of(block::look(&bank[at..end], m))
+}
+
+// Four blocks at a time are asked which of them are clean, and those that are not are looked at.
 fn count_blocks(bank: &[u8], m: marks::Marks) -> [u16; 5]
     requires { ⌜ (length (now bank) ≤ 46080) × (marks-cause m ≡ 0) ⌝ }
     ensures { λ t. ⌜ CountedBlocks (now (bank .entry)) m (blocks (now (bank .entry))) t × (now (bank .exit) ≡ now (bank .entry)) ⌝ }
@@ -157,12 +185,22 @@ fn count_blocks(bank: &[u8], m: marks::Marks) -> [u16; 5]
     let mut t = [0u16; 5];
     let n = bank.len() / 45;
     let mut k: usize = 0;
+    let mut left: u64 = 0;
     while k < n {
-        let at = 45 * k;
-        let end = at + 45;
-        let i = class_of(block::look(&bank[at..end], m));
-        t[i] = t[i] + 1;
-        k = k + 1;
+        if k % 4 == 0 {
+            left = left_from(bank, k);
+        }
+        if left == 0 {
+            // what is left of the four is clean
+            let more = 4 - k % 4;
+            t[0] = t[0] + (more as u16);
+            k = k + more;
+        } else {
+            let i = class_at(bank, k, m, left);
+            t[i] = t[i] + 1;
+            left = left / 2;
+            k = k + 1;
+        }
     }
     t
 }

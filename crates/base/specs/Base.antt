@@ -8,7 +8,8 @@
 --   tally n g    how many numbers below n pass the test g
 --   those s n g  of the n numbers from s on, those that pass the test g, lowest first; only t p: p alone where the test t passes
 --   least n g    the least number below n that passes the test g; n where none does
-use Prim.Native.Nat.{ℕ, zero, suc, _+_, _<_}
+--   digit r k    binary digit k of r
+use Prim.Native.Nat.{ℕ, zero, suc, _+_, _/_, _%_, _^_, _<_}
 use mathlib.Core.Path.{_≡_}
 use mathlib.Core.Logic.{_⊎_}
 use mathlib.Core.Bool.{Bool, true, false, _||_}
@@ -53,3 +54,6 @@ those s (suc n) g = only (g s) s ++ those (suc s) n g
 unfoldable pub least : ℕ → (ℕ → Bool) → ℕ
 least zero g = 0
 least (suc n) g = if (ltb (least n g) n) (least n g) (if (g n) n (suc n))
+
+abbrev pub digit : ℕ → ℕ → ℕ
+digit r k = r / 2 ^ k % 2

@@ -1,19 +1,21 @@
 -- What a call on a block does is decided: two outcomes on the same bytes agree in the answer and in every byte.
 --
---   read-decided, noted-decided, mend-decided, look-decided
+--   read-decided, noted-decided, mend-decided, look-decided, four-unclean-decided
 --   changed-agree, unread-window   what is added to a window; on a refusal nothing
-use Prim.Native.Nat.{ℕ}
+use Prim.Native.Nat.{ℕ, _*_}
 use mathlib.Core.Path.{_≡_, refl, sym, ap, ap₂, _∙_}
-use mathlib.Core.Logic.{_≢_}
+use mathlib.Core.Logic.{_≢_, _⊎_, inl, inr}
 use mathlib.Core.List.{List, []}
-use lib.ListN.{length}
+use lib.ListN.{length, take, drop}
+use Rattle.base.proofs.Tests.{same}
 use Rattle.answer.specs.Answer.{Answer, done, clean, in-chips, in-card, counted, refused, refused-card, number}
 use Rattle.answer.proofs.Causes.{Agreed, by-agree, by-same}
 use Rattle.marks.specs.declared.Marks.{Marks}
+use Rattle.sums.proofs.Decided.{four-digits}
 use Rattle.reading.proofs.Agree.{under-agree}
 use Rattle.window.specs.Window.{added}
 use Rattle.window.proofs.Runs.{added-none}
-use Rattle.block.specs.Read.{read-cause, mend-cause, ReadDone, NotedDone, MendDone, LookDone, changed-at}
+use Rattle.block.specs.Read.{read-cause, mend-cause, ReadDone, NotedDone, MendDone, LookDone, ReadsClean, FourUnclean, changed-at}
 
 pub read-decided : (b : List ℕ) (m : Marks) (out : List ℕ) (a a′ : Answer) (x x′ y y′ : List ℕ) → ReadDone b m out a x y → ReadDone b m out a′ x′ y′
     → Agreed a a′ y y′ × (x ≡ x′)
@@ -53,3 +55,10 @@ look-decided b m a a′ x x′ w v = (
   by-same (mend-cause (length b) m) a a′ _ _ (w .answer) (v .answer) (λ d d′. under-agree m b [] a a′ (d .0) (d′ .0) (d .1) (d′ .1) .0),
   w .received ∙ sym (v .received),
 )
+
+pub four-unclean-decided : (b : List ℕ) (r r′ : ℕ) (x x′ : List ℕ) → FourUnclean b r x → FourUnclean b r′ x′ → (r ≡ r′) × (x ≡ x′)
+four-unclean-decided b r r′ x x′ w v = (pick (same (length b) 180), w .kept ∙ sym (v .kept))
+  where
+    pick : (length b ≡ 180) ⊎ (length b ≢ 180) → r ≡ r′
+    pick (inl e) = four-digits (λ k. ReadsClean (take 45 (drop (45 * k) b))) r r′ (w .below) (v .below) (w .four e) (v .four e)
+    pick (inr e) = w .other e ∙ sym (v .other e)

@@ -1,24 +1,25 @@
 -- What is read of a block, from its sums: the calls' contracts, by what the code found.
 --
 --   deliver            a reading into one output is one into any other
---   clean-read         a block whose eleven sums are 0 reads as clean
+--   clean-read         a block whose eleven sums are 0 reads as clean; clean-exactly-at: a part of more bytes does exactly where it is lawful
 --   decoded-read       a block whose sums are not is read as the decoder says
 --   read-refused, read-done, mend-refused, mend-done, look-refused, look-done   the contracts, by their causes
 --   clean-noted, decoded-noted   the positions that are added to a window
-use mathlib.Core.Logic.{_≢_}
-use mathlib.Core.Path.{_≡_, refl, sym, ap, _∙_}
+use mathlib.Core.Logic.{_≢_, _↔_}
+use mathlib.Core.Path.{_≡_, refl, sym, ap, _∙_, subst}
 use mathlib.Core.Bool.{Bool, true, false}
 use mathlib.Core.List.{List, []}
-use Prim.Native.Nat.{ℕ}
+use Prim.Native.Nat.{ℕ, _+_, _<_, _≤_}
 use native.Mathlib.Omega.{arith}
-use lib.ListN.{length}
+use lib.ListN.{length, take, drop, length-drop}
+use lib.Seq.{getD-take, getD-drop, length-take-le}
 use Rattle.base.specs.Base.{if}
 use Rattle.answer.specs.Answer.{Answer, done, clean, in-chips, in-card, counted, refused, refused-card, number}
 use Rattle.answer.proofs.Causes.{by-refused, by-done}
-use Rattle.marks.specs.Marks.{marked-chips, marks-cause}
+use Rattle.marks.specs.Marks.{fresh-marks, marked-chips, marks-cause}
 use Rattle.marks.specs.declared.Marks.{Marks}
-use Rattle.marks.proofs.Laws.{cause-lawful, few-chips}
-use Rattle.code.specs.Block.{Block, differing}
+use Rattle.marks.proofs.Laws.{fresh-lawful, lawful-cause, cause-lawful, few-chips}
+use Rattle.code.specs.Block.{byte, Block, Lawful, differing}
 use Rattle.code.specs.Labels.{built-in}
 use Rattle.code.proofs.BuiltIn.{built-in-set}
 use Rattle.code.proofs.Differing.{differing-same}
@@ -26,7 +27,7 @@ use Rattle.sums.specs.Sums.{IsSums, all-zero}
 use Rattle.sums.specs.declared.Sums.{Sums}
 use Rattle.sums.proofs.Zero.{zero-lawful}
 use Rattle.reading.specs.Reading.{reading-answer, ReadsUnder}
-use Rattle.reading.proofs.Facts.{clean-reads}
+use Rattle.reading.proofs.Facts.{clean-reads, clean-lawful}
 use Rattle.change.specs.Change.{applied, no-change, WellFormed, positions, Listed}
 use Rattle.change.specs.declared.Change.{Change}
 use Rattle.change.specs.declared.Positions.{Positions}
@@ -35,7 +36,7 @@ use Rattle.window.specs.Window.{added}
 use Rattle.window.proofs.Runs.{added-none}
 use Rattle.decode.specs.Decode.{Decodes}
 use Rattle.decode.specs.declared.Decoded.{Decoded}
-use Rattle.block.specs.Read.{read-cause, mend-cause, ReadDone, MendDone, LookDone, is-corrected, changed-at}
+use Rattle.block.specs.Read.{read-cause, mend-cause, ReadDone, MendDone, LookDone, ReadsClean, is-corrected, changed-at}
 use Rattle.block.specs.Steps.{delivered}
 
 pub deliver : (m : Marks) (b o : List ℕ) (a : Answer) (x : List ℕ) → ReadsUnder m b o a x → (out : List ℕ) → ReadsUnder m b out a (delivered a x out)
@@ -56,6 +57,28 @@ module _ (m : Marks) (lawful : marks-cause m ≡ 0) (b : List ℕ) (bb : Block b
 
   pub decoded-read : (d : Decoded) → Decodes s m d → ReadsUnder m b b (reading-answer (d .reading)) (applied b (d .change))
   decoded-read d w = w .reads (cause-lawful m lawful) b bb sums
+
+-- ---- blocks one after the other
+part-block : (b : List ℕ) → ((p : ℕ) → byte b p < 256) → (q : ℕ) → q + 45 ≤ length b → Block (take 45 (drop q b))
+part-block b hb q room = record {
+  long = length-take-le 45 (drop q b) (rw length-drop (omega (arith, room)));
+  bytes = λ p h. subst (λ (x : ℕ). x < 256) (sym (getD-take 45 (drop q b) p 0 h ∙ getD-drop q b p 0)) (hb (q + p));
+}
+
+pub clean-exactly-at : (b : List ℕ) → ((p : ℕ) → byte b p < 256) → (q : ℕ) → q + 45 ≤ length b
+    → Lawful built-in (take 45 (drop q b)) ↔ ReadsClean (take 45 (drop q b))
+clean-exactly-at b hb q room = (
+  forth,
+  λ h. clean-lawful built-in (fresh-marks .card) (marked-chips fresh-marks) x [] x (h fresh-marks (lawful-cause fresh-marks fresh-lawful)),
+)
+  where
+    x : List ℕ
+    x = take 45 (drop q b)
+
+    forth : Lawful built-in (take 45 (drop q b)) → ReadsClean (take 45 (drop q b))
+    forth law m lawful =
+        let l = cause-lawful m lawful in
+        clean-reads built-in built-in-set (marked-chips m) (few-chips m l) (take 45 (drop q b)) (m .card) (l .card) (part-block b hb q room) law []
 
 -- ---- the contracts
 pub read-refused : (b : List ℕ) (m : Marks) (out : List ℕ) (n : ℕ) → read-cause (length b) m (length out) ≡ n → n ≢ 0 → ReadDone b m out (refused n) b out

@@ -8,7 +8,7 @@ use denote.Triple.Clauses
 use denote.Ref.{now}
 use mathlib.Core.Path.{_≡_}
 use Rattle.reading.specs.Reading.{reading-answer}
-use Rattle.block.specs.Read.{ReadDone, NotedDone, MendDone, LookDone, record-in}
+use Rattle.block.specs.Read.{ReadDone, NotedDone, MendDone, LookDone, FourUnclean, record-in}
 use Rattle.block.proofs.read as read
 use Rattle.block.proofs.read.Kinds as read-kinds
 use Rattle.block.proofs.read.Reads as read-reads
@@ -18,6 +18,9 @@ use Rattle.block.proofs.read_noted.Reads as read-noted-reads
 use Rattle.block.proofs.mend as mend
 use Rattle.block.proofs.mend.Kinds as mend-kinds
 use Rattle.block.proofs.mend.Reads as mend-reads
+use Rattle.block.proofs.four_unclean as four-unclean
+use Rattle.block.proofs.four_unclean.Kinds as four-unclean-kinds
+use Rattle.block.proofs.four_unclean.Reads as four-unclean-reads
 use Rattle.block.proofs.look as look
 use Rattle.block.proofs.look.Kinds as look-kinds
 use Rattle.block.proofs.look.Reads as look-reads
@@ -60,6 +63,15 @@ look-tied κs a r s l = l
 
 pub look-asks : (κs : Lifetimes.Lfts 1) (a : World.ArgsD look.signature κs) → look-reads.Asked κs a
 look-asks κs a = tt
+
+-- four_unclean: four blocks
+pub four-unclean-tied : (κs : Lifetimes.Lfts 1) (a : World.ArgsD four-unclean.signature κs) (r : World.ResD four-unclean.signature κs)
+    (s : Clauses.AtExit (Kinds.endedOf 1 four-unclean-kinds.ps four-unclean-kinds.r) κs) → four-unclean-reads.Learnt κs a r s
+    → FourUnclean (now (a .0)) r (now (s .0))
+four-unclean-tied κs a r s l = l
+
+pub four-unclean-asks : (κs : Lifetimes.Lfts 1) (a : World.ArgsD four-unclean.signature κs) → four-unclean-reads.Asked κs a
+four-unclean-asks κs a = tt
 
 -- record_part: output, reading; the part is of that same output, not a copy
 pub record-part-tied : (κs : Lifetimes.Lfts 1) (a : World.ArgsD record-part.signature κs) (r : World.ResD record-part.signature κs)

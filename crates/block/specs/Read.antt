@@ -7,18 +7,20 @@
 --   NotedDone      a block read into an output, with these positions added to a window
 --   MendDone       a block read, the corrected bytes put in its place, and their positions added to a window
 --   LookDone       a block read, and nothing written
+--   ReadsClean     a block reads as clean, whatever is marked; FourUnclean: which of four blocks one after the other do not, a binary digit each
 --   record-in      the record as a part of the output
-use Prim.Native.Nat.{ℕ}
+use Prim.Native.Nat.{ℕ, _*_, _<_}
 use mathlib.Core.Path.{_≡_}
+use mathlib.Core.Logic.{_≢_, _↔_}
 use mathlib.Core.Bool.{Bool, true, false, not}
 use mathlib.Core.List.{List, [], _∷_}
 use lib.Dec.{eqb}
-use lib.ListN.{length, take}
-use Rattle.base.specs.Base.{if}
+use lib.ListN.{length, take, drop}
+use Rattle.base.specs.Base.{if, digit}
 use Rattle.answer.specs.Answer.{Answer, done, clean, in-chips, in-card, counted, refused, refused-card, By}
 use Rattle.answer.specs.Cause.{cause, lowest}
 use Rattle.code.specs.Block.{differing}
-use Rattle.marks.specs.Marks.{marks-causes}
+use Rattle.marks.specs.Marks.{marks-cause, marks-causes}
 use Rattle.marks.specs.declared.Marks.{Marks}
 use Rattle.reading.specs.Reading.{ReadsUnder}
 use Rattle.window.specs.Window.{added}
@@ -60,6 +62,17 @@ pub record MendDone (b : List ℕ) (m : Marks) (w : List ℕ) (a : Answer) (b′
 pub record LookDone (b : List ℕ) (m : Marks) (a : Answer) (b′ : List ℕ) : Type 0 where
   pub received : b′ ≡ b
   pub answer : By (mend-cause (length b) m) a (Unit {0}) ((x : List ℕ) × ReadsUnder m b [] a x)
+
+-- these bytes read as clean, whatever is marked
+abbrev pub ReadsClean : List ℕ → Type 0
+ReadsClean x = (m : Marks) → marks-cause m ≡ 0 → ReadsUnder m x [] clean x
+
+-- digit k of r is 0 exactly where block k does; b′ are the bytes after the call
+pub record FourUnclean (b : List ℕ) (r : ℕ) (b′ : List ℕ) : Type 0 where
+  pub below : r < 16
+  pub four : length b ≡ 180 → (k : ℕ) → k < 4 → (digit r k ≡ 0) ↔ ReadsClean (take 45 (drop (45 * k) b))
+  pub other : length b ≢ 180 → r ≡ 15
+  pub kept : b′ ≡ b
 
 -- "the first 34 bytes of that same output", empty on a refusal, and "of an output that is not 45 bytes it is empty"
 unfoldable pub record-in : List ℕ → Answer → List ℕ

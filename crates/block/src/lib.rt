@@ -3,7 +3,7 @@ ghost use mathlib.Core.Path.{_≡_};
 ghost use Prim.Native.Nat.{min};
 ghost use lib.ListN.{length};
 ghost use Rattle.reading.specs.Reading.{reading-answer};
-ghost use Rattle.block.specs.Read.{read-cause, mend-cause, ReadDone, NotedDone, MendDone, LookDone, is-corrected, record-in};
+ghost use Rattle.block.specs.Read.{read-cause, mend-cause, ReadDone, NotedDone, MendDone, LookDone, FourUnclean, is-corrected, record-in};
 ghost use Rattle.block.specs.Steps.{Corrects};
 
 // 0, or the number that a block's length or the marks give. 1: the block is not 45 bytes; 6, 7: the marks are not lawful.
@@ -155,6 +155,14 @@ pub fn look(block: &[u8], m: marks::Marks) -> reading::Reading
     }
     let seen = decode::decode(s, m);
     seen.reading
+}
+
+// Which of four blocks, in 180 bytes, don't read as clean: digit k is 0 exactly where block k does, whatever is marked. Of any other
+// length all are said not to.
+pub fn four_unclean(b: &[u8]) -> u64
+    ensures { λ r. ⌜ FourUnclean (now (b .entry)) r (now (b .exit)) ⌝ }
+{
+    sums::built_in::four_left(b)
 }
 
 // The record: the first 34 bytes of that same output where the reading is corrected, else an empty part of it.

@@ -17,7 +17,8 @@ use Rattle.base.specs.Base.{if}
 use Rattle.base.proofs.Tests.{same}
 use Rattle.answer.specs.Answer.{Answer}
 use Rattle.answer.proofs.Causes.{by-accepted}
-use Rattle.marks.specs.Marks.{LawfulMarks, fresh-marks}
+use Rattle.marks.specs.Marks.{fresh-marks}
+pub use Rattle.marks.proofs.Laws.{fresh-lawful}
 use Rattle.code.specs.Block.{byte, zeros, Stored}
 use Rattle.code.specs.Labels.{built-in}
 use Rattle.reading.specs.Allowed.{ChipKind}
@@ -42,9 +43,6 @@ one-byte b i x = (i ∷ [], omega arith, λ p l. at p (same p i))
     at : (p : ℕ) → (p ≡ i) ⊎ (p ≢ i) → (byte (set b i x) p ≡ byte b p) ⊎ (⊥ ⊎ ((p ≡ i) ⊎ ⊥))
     at p (inl e) = inr (inr (inl e))
     at p (inr n) = inl (getD-set-other b i p x 0 n)
-
-pub fresh-lawful : LawfulMarks fresh-marks
-fresh-lawful = record { card = tt; count = omega arith; first = inr (refl, refl); second = inr (omega arith, refl); differ = λ e. absurd (omega arith) }
 
 -- the book after the put and the hit: the block stored, and held with byte i set to x
 abbrev pub after : ℕ → ℕ → List ℕ → ℕ → ℕ → Book

@@ -27,7 +27,7 @@ use Rattle.sheet.specs.ByTables.{logs-inverse}
 use Rattle.sheet.proofs.Lines.{line-by-line}
 use Rattle.sheet.proofs.ByTables.{logs-invert}
 use Rattle.constants.specs.EveryTable.{worked-inverse, worked-word, EveryTable}
-use Rattle.constants.proofs.WorkedFactors.{label-at, factor-at}
+use Rattle.constants.proofs.WorkedFactors.{label-at}
 
 -- ---- inverses
 one-inverse : (a x y : ℕ) → x < 256 → y < 256 → a · x ≡ 1 → a · y ≡ 1 → x ≡ y
@@ -73,6 +73,5 @@ every-table = record {
   labels = λ κs a r s l p h. ap (λ (x : List ℕ). byte x p) l ∙ label-at p h;
   inverses = λ κs a r s l i hh hi. ap (λ (w : ℕ). byte-of w i) l ∙ in-word _ i hh hi;
   words = λ κs a r s l i h. l i h ∙ word-at _ i h;
-  factors = λ κs a r s l k h. factor-at r l k h;
   limits = λ κs a r s l. l;
 }

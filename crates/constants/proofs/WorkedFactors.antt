@@ -3,9 +3,10 @@
 --   label-at    place p of the labels is the label of position p
 --   scaled      every number that is 1 / (d · e · (d + e)), by products, takes a value where the one by the printed tables does
 --   factor-at   the four factors
+--   every-shift the statement on shifts
 use mathlib.Core.Logic.{_≢_}
 use mathlib.Core.Path.{_≡_, refl, sym, ap, ap₂, _∙_}
-use mathlib.Core.List.{List}
+use mathlib.Core.List.{List, [], _∷_}
 use Prim.Native.Nat.{ℕ, zero, suc, _%_, _<_}
 use native.Mathlib.Nat.{mod-lt}
 use native.Mathlib.Omega.{arith}
@@ -20,12 +21,14 @@ use Rattle.code.specs.Block.{byte}
 use Rattle.code.specs.Labels.{label, built-in}
 use Rattle.code.proofs.Blocks.{block-of-at}
 use Rattle.code.proofs.BuiltIn.{built-in-set}
+use Rattle.sums.specs.Words.{paired}
 use Rattle.store.specs.Factors as factors-of
 use Rattle.store.specs.Factors.{Factors}
+use Rattle.store.proofs.Solved.{built-in-factors}
 use Rattle.sheet.specs.ByTables.{logs-product, logs-inverse}
 use Rattle.sheet.proofs.Logs.{all-nonzero}
 use Rattle.sheet.proofs.ByTables.{logs-multiply, logs-invert}
-use Rattle.constants.specs.EveryTable.{worked-D, worked-E, worked-T, worked-factors}
+use Rattle.constants.specs.EveryShift.{worked-D, worked-E, worked-T, worked-factors, EveryShift}
 
 pub label-at : (p : ℕ) → p < 45 → byte built-in p ≡ label p
 unfolding built-in
@@ -110,3 +113,21 @@ module _ (fs : List ℕ) (F : Factors built-in (byte fs 0) (byte fs 1) (byte fs 
       F .h-is ∙ ap (λ (d : ℕ). F .T · (d · d)) D-is ∙ by-T (worked-D · worked-D) (logs-product worked-D worked-D) (printed _) (square worked-D D-nonzero)
   factor-at (suc (suc (suc zero))) l = F .k-is ∙ ap (λ (d : ℕ). F .T · d) D-is ∙ by-T worked-D worked-D D-nonzero refl
   factor-at (suc (suc (suc (suc i)))) l = absurd (omega arith)
+
+-- ---- what the shifts give
+factors : List ℕ
+factors = 26 ∷ 243 ∷ 136 ∷ 247 ∷ []
+
+pub every-shift : EveryShift
+unfolding factors
+every-shift κs a r s l =
+    l 26 243 136 247 known
+    ∙ ap₂ paired
+    (ap₂ (λ (f g : ℕ). (a .0 · f) ⊕ (a .1 .0 · g)) (at 0 (omega arith)) (at 1 (omega arith)))
+    (ap₂ (λ (f g : ℕ). (a .0 · f) ⊕ (a .1 .0 · g)) (at 2 (omega arith)) (at 3 (omega arith)))
+  where
+    known : Factors built-in 26 243 136 247
+    known = built-in-factors 26 243 136 247 refl refl refl refl
+
+    at : (i : ℕ) → i < 4 → byte factors i ≡ byte worked-factors i
+    at = factor-at factors known

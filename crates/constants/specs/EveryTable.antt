@@ -3,50 +3,28 @@
 --
 --   worked-inverse a   the inverse of a, by the printed powers and logarithms; 0 for 0
 --   worked-word j i    the label of card j, chip i, a binary digit to a byte; 0 for a card above 4
---   worked-D, worked-E, worked-T   two entries of card 4's reduced matrix, D and E, by the printed labels; T = 1 / (D · E · (D + E))
---   worked-factors     T·E², T·E, T·D², T·D, by the printed powers and logarithms
 --   EveryTable         what is printed, and the tables, crate by crate; audit/constants.py holds this list to the source
 use Prim.Native.Nat.{ℕ, _+_, _*_, _<_}
 use mathlib.Core.Path.{_≡_}
-use mathlib.Core.List.{List, [], _∷_}
 use lib.Dec.{eqb, ltb}
 use lib.ListN.{getD}
 use Rattle.base.specs.Base.{if}
-use Rattle.field.specs.Field.{_⊕_}
 use Rattle.field.proofs.Constants.{InverseTable}
 use Rattle.code.specs.Block.{byte, position}
 use Rattle.code.specs.Labels.{label}
 use Rattle.code.proofs.Constants.{LabelTable}
 use Rattle.sums.specs.Words.{byte-of, spread-of}
 use Rattle.sums.proofs.Constants.{WordTable}
-use Rattle.store.proofs.Constants.{FactorTable}
 use Rattle.slip.specs.Limits.{limits-of}
 use Rattle.slip.proofs.Constants.{LimitTable}
 use Rattle.sheet.specs.Lines.{LineByLine}
-use Rattle.sheet.specs.ByTables.{logs-product, logs-inverse}
+use Rattle.sheet.specs.ByTables.{logs-inverse}
 
 abbrev pub worked-inverse : ℕ → ℕ
 worked-inverse a = if (eqb a 0) 0 (logs-inverse a)
 
 abbrev pub worked-word : ℕ → ℕ → ℕ
 worked-word j i = if (ltb j 5) (spread-of 8 (label (position j i))) 0
-
-abbrev pub worked-D : ℕ
-worked-D = label 34 ⊕ label 43
-
-abbrev pub worked-E : ℕ
-worked-E = label 35 ⊕ label 44
-
-abbrev pub worked-T : ℕ
-worked-T = logs-inverse (logs-product (logs-product worked-D worked-E) (worked-D ⊕ worked-E))
-
-abbrev pub worked-factors : List ℕ
-worked-factors =
-    logs-product worked-T (logs-product worked-E worked-E)
-    ∷ logs-product worked-T worked-E
-    ∷ logs-product worked-T (logs-product worked-D worked-D)
-    ∷ logs-product worked-T worked-D
-    ∷ []
 
 pub record EveryTable : Type 0 where
   -- the tables program prints `power 2`, `log` and `label`, line by line
@@ -57,7 +35,5 @@ pub record EveryTable : Type 0 where
   pub inverses : InverseTable (λ h word. (i : ℕ) → h < 32 → i < 8 → byte-of word i ≡ worked-inverse (8 * h + i))
   -- sums: the words of card j
   pub words : WordTable (λ j words. (i : ℕ) → i < 9 → getD words i 0 ≡ worked-word j i)
-  -- store: the factors of bytes 34 and 35
-  pub factors : FactorTable (λ factors. (k : ℕ) → k < 4 → byte factors k ≡ byte worked-factors k)
   -- slip: no values of the field, but the limits that order 8 sets (`behind-exactly` of slip says what they come to)
   pub limits : LimitTable (λ map limits. limits ≡ limits-of map)

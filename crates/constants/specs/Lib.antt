@@ -1,1 +1,2 @@
 pub mod EveryTable
+pub mod EveryShift

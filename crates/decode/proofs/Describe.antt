@@ -176,7 +176,7 @@ module _ (ls z : List ℕ) (j : ℕ) (hj : j < 5) (t₁ t₂ : ℕ) where
 
     pub solves-two : (q f : ℕ) (z″ : List ℕ) → Beside j (p ∷ q ∷ []) → f < 2 ^ 8
         → (entry ls j p · (entry ls j p ⊕ entry ls j q) ≢ 0 → (entry ls j p · (entry ls j p ⊕ entry ls j q)) · e ≡ t₂ ⊕ (entry ls j q · t₁))
-        → (entry ls j q ≢ 0 → entry ls j q · f ≡ t₁ ⊕ (entry ls j p · e))
+        → (entry ls j p · (entry ls j p ⊕ entry ls j q) ≢ 0 → entry ls j q ≢ 0 → entry ls j q · f ≡ t₁ ⊕ (entry ls j p · e))
         → z″ ≡ set z′ (q % 9) (getD z′ (q % 9) 0 ⊕ f)
         → Solves ls z j (p ∷ q ∷ []) t₁ t₂ (record { card = j; rows = z″; p = p; e = e; q = q; f = f })
     unfolding fits-by
@@ -185,5 +185,6 @@ module _ (ls z : List ℕ) (j : ℕ) (hj : j < 5) (t₁ t₂ : ℕ) where
       reached = λ b k.
           reaches ls b z j hj t₁ t₂ k (p ∷ q ∷ []) o refl (record { card = j; rows = z″; p = p; e = e; q = q; f = f })
           (gives-two ls b z j hj t₁ t₂ k nine p e z′ he ez q f z″ o hf
-          (ee (first-nonzero ls (k .set) j hj b (k .block) p q o)) (ef (second-nonzero ls (k .set) j hj b (k .block) p q o)) ez′);
+          (ee (first-nonzero ls (k .set) j hj b (k .block) p q o))
+          (ef (first-nonzero ls (k .set) j hj b (k .block) p q o) (second-nonzero ls (k .set) j hj b (k .block) p q o)) ez′);
     }

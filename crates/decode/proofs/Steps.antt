@@ -8,7 +8,7 @@
 --   one-more                    what holds below i and at i holds below i + 1
 --   further-none, further-off   no chip has the entry that the sums ask for; this one has it
 use mathlib.Core.Logic.{_≢_, _⊎_, inl, inr}
-use mathlib.Core.Path.{_≡_, sym, ap, _∙_, subst}
+use mathlib.Core.Path.{_≡_, sym, ap, ap₂, _∙_, subst}
 use mathlib.Core.Bool.{Bool, true, _&&_}
 use mathlib.Core.List.{List, [], _∷_}
 use Prim.Native.Nat.{ℕ, _+_, _*_, _/_, _%_, _^_, _<_}
@@ -19,7 +19,7 @@ use Rattle.base.proofs.Tests.{same}
 use Rattle.field.specs.Field.{_⊕_, _·_}
 use Rattle.field.proofs.IsField.{IsField}
 use Rattle.field.proofs.Gf256.{field}
-use Rattle.field.proofs.Ring.{ring}
+use Rattle.field.proofs.Ring.{ring, zero-mul, mul-zero}
 use Rattle.field.proofs.Xor.{add-self, add-lt}
 use Rattle.code.specs.Block.{byte}
 use Rattle.code.specs.Labels.{entry, LabelSet}
@@ -35,22 +35,34 @@ module _ (_∗_ : ℕ → ℕ → ℕ) (F : IsField 8 _∗_) where
   regroup : (d s i : ℕ) → d ∗ (s ∗ i) ≡ (d ∗ i) ∗ s
   regroup d s i = simp (ring, F)
 
+  split : (c y e : ℕ) → (c ∗ y) ∗ e ≡ y ∗ (c ∗ e)
+  split c y e = simp (ring, F)
+
+-- no factor of what is not 0 is 0
+left-nonzero : (c y : ℕ) → c · y ≢ 0 → c ≢ 0
+left-nonzero c y n z = n (ap (λ (x : ℕ). x · y) z ∙ zero-mul 8 _·_ field y)
+
+right-nonzero : (c y : ℕ) → c · y ≢ 0 → y ≢ 0
+right-nonzero c y n z = n (ap (λ (x : ℕ). c · x) z ∙ mul-zero 8 _·_ field c)
+
 pub quotient : (s d i r : ℕ) → s < 2 ^ 8 → (d ≢ 0 → d · i ≡ 1) → r ≡ s · i → d ≢ 0 → d · r ≡ s
 quotient s d i r hs inverse e ne =
     ap (λ (x : ℕ). d · x) e ∙ regroup _·_ field d s i ∙ ap (λ (x : ℕ). x · s) (inverse ne) ∙ field .one s hs
 
-pub first-by : (c d t₁ t₂ e a x m y : ℕ) → (m ≢ 0 → m · e ≡ a) → a ≡ t₂ ⊕ x → x ≡ d · t₁ → m ≡ c · y → y ≡ c ⊕ d
+-- what chip p takes of the first sum is g, a part of that sum by the two sums alone
+pub first-by : (c d t₁ t₂ e a x y g : ℕ) → (y ≢ 0 → y · g ≡ a) → a ≡ t₂ ⊕ x → x ≡ d · t₁ → y ≡ c ⊕ d → (c ≢ 0 → c · e ≡ g)
     → c · (c ⊕ d) ≢ 0 → (c · (c ⊕ d)) · e ≡ t₂ ⊕ (d · t₁)
-first-by c d t₁ t₂ e a x m y h qa qx qm qy ne =
-    let same : m ≡ c · (c ⊕ d) = qm ∙ ap (λ (z : ℕ). c · z) qy in
-    ap (λ (z : ℕ). z · e) (sym same) ∙ h (λ z. ne (sym same ∙ z)) ∙ qa ∙ ap (λ (z : ℕ). t₂ ⊕ z) qx
+first-by c d t₁ t₂ e a x y g h qa qx qy own ne =
+    split _·_ field c (c ⊕ d) e ∙ ap₂ (λ (p q : ℕ). p · q) (sym qy) (own (left-nonzero c (c ⊕ d) ne))
+    ∙ h (λ z. right-nonzero c (c ⊕ d) ne (sym qy ∙ z)) ∙ qa ∙ ap (λ (z : ℕ). t₂ ⊕ z) qx
 
-pub second-by : (c d t₁ e f a x : ℕ) → (d ≢ 0 → d · f ≡ a) → a ≡ t₁ ⊕ x → x ≡ c · e → d ≢ 0 → d · f ≡ t₁ ⊕ (c · e)
-second-by c d t₁ e f a x h qa qx ne = h ne ∙ qa ∙ ap (λ (z : ℕ). t₁ ⊕ z) qx
+pub second-by : (c d t₁ e f b g : ℕ) → (d ≢ 0 → d · f ≡ b) → b ≡ t₁ ⊕ g → (c ≢ 0 → c · e ≡ g) → c · (c ⊕ d) ≢ 0 → d ≢ 0 → d · f ≡ t₁ ⊕ (c · e)
+second-by c d t₁ e f b g h qb own ne nd = h nd ∙ qb ∙ ap (λ (z : ℕ). t₁ ⊕ z) (sym (own (left-nonzero c (c ⊕ d) ne)))
 
 -- the same, of the entries that the code read
-pub by-entries : (c c′ d d′ e f t₁ t₂ : ℕ) → c ≡ c′ → d ≡ d′ → (c · (c ⊕ d) ≢ 0 → (c · (c ⊕ d)) · e ≡ t₂ ⊕ (d · t₁)) → (d ≢ 0 → d · f ≡ t₁ ⊕ (c · e))
-    → (c′ · (c′ ⊕ d′) ≢ 0 → (c′ · (c′ ⊕ d′)) · e ≡ t₂ ⊕ (d′ · t₁)) × (d′ ≢ 0 → d′ · f ≡ t₁ ⊕ (c′ · e))
+pub by-entries : (c c′ d d′ e f t₁ t₂ : ℕ) → c ≡ c′ → d ≡ d′
+    → (c · (c ⊕ d) ≢ 0 → (c · (c ⊕ d)) · e ≡ t₂ ⊕ (d · t₁)) → (c · (c ⊕ d) ≢ 0 → d ≢ 0 → d · f ≡ t₁ ⊕ (c · e))
+    → (c′ · (c′ ⊕ d′) ≢ 0 → (c′ · (c′ ⊕ d′)) · e ≡ t₂ ⊕ (d′ · t₁)) × (c′ · (c′ ⊕ d′) ≢ 0 → d′ ≢ 0 → d′ · f ≡ t₁ ⊕ (c′ · e))
 by-entries c c′ d d′ e f t₁ t₂ p q h g = rw (← p, ← q) (h, g)
 
 -- ---- chips by their count

@@ -41,10 +41,10 @@ use Rattle.decode.proofs.Alone.{sums-at}
 use Rattle.decode.proofs.Cards.{from-keep, to-keep, first-found, second-found, not-chips, card-reads, chips-reads}
 
 pub sums-by : (ls : List ℕ) → LabelSet ls → (s : Sums) (j : ℕ) → j < 5 → (words : List ℕ) → words ≡ spread ls → (z : List ℕ) → z ≡ rows-of s
-    → (u a c t₁ t₂ : ℕ) → u ≡ gathered z 0 words j → a ≡ at-point 2 8 u → c ≡ at-point 4 8 u → t₁ ≡ s .once ⊕ a → t₂ ≡ s .squared ⊕ c
+    → (u a c t₁ t₂ : ℕ) → u ≡ gathered z words j → a ≡ at-point 2 8 u → c ≡ at-point 4 8 u → t₁ ≡ s .once ⊕ a → t₂ ≡ s .squared ⊕ c
     → SumsAt ls s j t₁ t₂
 sums-by ls ok s j hj words w z ez u a c t₁ t₂ eu ea ec e₁ e₂ b k =
-    let h = sums-at ls ok s j hj words w u (eu ∙ ap (λ (y : List ℕ). gathered y 0 words j) ez) b k in
+    let h = sums-at ls ok s j hj words w u (eu ∙ ap (λ (y : List ℕ). gathered y words j) ez) b k in
     subst (λ (x : ℕ). ReducedSums ls b j x t₂) (sym (e₁ ∙ ap (λ (x : ℕ). s .once ⊕ x) ea))
     (subst (ReducedSums ls b j (s .once ⊕ at-point 2 8 u)) (sym (e₂ ∙ ap (λ (x : ℕ). s .squared ⊕ x) ec)) h)
 

@@ -89,11 +89,10 @@ fn with_two(
 {
     let c = entry_at(labels, j, p);
     let d = entry_at(labels, j, q);
-    let e = divide(
-        field::add(squared, field::mul(d, once)),
-        field::mul(c, field::add(c, d)),
-    );
-    let f = divide(field::add(once, field::mul(c, e)), d);
+    // chip p's share of the first sum
+    let share = divide(field::add(squared, field::mul(d, once)), field::add(c, d));
+    let e = divide(share, c);
+    let f = divide(field::add(once, share), d);
     let first = bumped(rows, p, e);
     let both = bumped(first, q, f);
     change::Change {

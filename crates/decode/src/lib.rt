@@ -11,7 +11,7 @@ ghost use Rattle.base.specs.Base.{tally};
 ghost use Rattle.code.specs.Labels.{built-in, LabelSet};
 ghost use Rattle.marks.specs.Marks.{marked-chips, LawfulMarks};
 ghost use Rattle.marks.specs.declared.CardMark.the-variants.{None, Card};
-ghost use Rattle.sums.specs.Sums.{rows-of};
+ghost use Rattle.sums.specs.Sums.{rows-of, taken};
 ghost use Rattle.sums.specs.declared.Sums.{Sums};
 ghost use Rattle.change.specs.Change.{applied, nonzero-at, no-change, weight, Listed};
 ghost use Rattle.decode.specs.Search.{SumsAt, Alone, chips-kind, card-kind};
@@ -61,16 +61,12 @@ fn chips_kind(n: u8) -> reading::Kind
 }
 
 // ---- no card marked
-// Whether card j alone reaches a lawful block. The second sum is worked out only where the first fits.
-fn fits_alone(s: sums::Sums, rows: [u8; 9], j: u8) -> bool
-    requires { ⌜ (j < 5) × (rows ≡ rows-of s) ⌝ }
+// Whether card j alone reaches a lawful block: what it takes of the label sums is all of them.
+fn fits_alone(s: sums::Sums, own: u64, j: u8) -> bool
+    requires { ⌜ (j < 5) × (own ≡ taken s j) ⌝ }
     ensures { λ r. ⌜ Alone built-in s j r ⌝ }
 {
-    let word = sums::card_word(rows, j);
-    if sums::at_x(word) != s.once {
-        return false;
-    }
-    sums::at_x_squared(word) == s.squared
+    own == sums::both(s)
 }
 
 // No chip marked either: what a card takes are the rows themselves, so that all cards change as many bytes.
@@ -81,8 +77,9 @@ fn no_marks(s: sums::Sums) -> Decoded
     let n = change::count(equations::alone(rows, 0));
     let mut fitting: u8 = 0;
     let mut card: u8 = 0;
+    let mut own = sums::built_in::first_card(s);
     'five: for j in 0u8..5 {
-        if fits_alone(s, rows, j) {
+        if fits_alone(s, own, j) {
             if n <= reading::further(0) {
                 return Decoded {
                     reading: reading::Reading::Corrected(chips_kind(n)),
@@ -95,7 +92,12 @@ fn no_marks(s: sums::Sums) -> Decoded
             }
             fitting = 1;
             card = j;
+            // under the built-in labels cards take different amounts, but for 0
+            if own != 0 {
+                break 'five;
+            }
         }
+        own = sums::built_in::next_card(own);
     }
     if fitting == 0 {
         return refused(reading::Reading::Refused(10));
@@ -119,10 +121,11 @@ fn over_cards(labels: &[u8], s: sums::Sums, m: marks::Marks) -> Decoded
     let mut card: u8 = 0;
     let mut held_once: u8 = 0;
     let mut held_squared: u8 = 0;
+    let mut own = sums::built_in::first_card(s);
     'cards: for j in 0u8..5 {
-        let word = sums::card_word(rows, j);
-        let once = field::add(s.once, sums::at_x(word));
-        let squared = field::add(s.squared, sums::at_x_squared(word));
+        let once = field::add(s.once, sums::once(own));
+        let squared = field::add(s.squared, sums::squared(own));
+        own = sums::built_in::next_card(own);
         let w = chips::off_card(m, j);
         if equations::fits(labels, once, squared, j, w) {
             let d = equations::solve(labels, rows, once, squared, j, w);
@@ -203,9 +206,9 @@ fn under_card(labels: &[u8], s: sums::Sums, m: marks::Marks, j: u8) -> Decoded
     ensures { λ r. ⌜ Answers (now (labels .entry)) (Card j) (marked-chips m) s r ⌝ }
 {
     let rows = sums::rows(s);
-    let word = sums::card_word(rows, j);
-    let once = field::add(s.once, sums::at_x(word));
-    let squared = field::add(s.squared, sums::at_x_squared(word));
+    let own = sums::built_in::on_card(rows, j);
+    let once = field::add(s.once, sums::once(own));
+    let squared = field::add(s.squared, sums::squared(own));
     let w = chips::off_card(m, j);
     if w.count == 0 {
         return beside_card(labels, rows, once, squared, j);

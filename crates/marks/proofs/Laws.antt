@@ -1,5 +1,6 @@
 -- Laws of the mark record and of the calls that place and lift a mark: what the crates above this one use.
 --
+--   fresh-lawful                        a fresh record is lawful
 --   lawful-cause, cause-lawful          a record is lawful exactly when no cause is given
 --   four-long                           a record has four bytes
 --   bytes-of-bytes, of-bytes-bytes      four bytes are those of their record; a lawful record is that of its bytes
@@ -17,7 +18,7 @@
 --   absent-refused                      a mark to lift that is not there is 9
 use Prim.Native.Nat.{ℕ, zero, suc, _<_}
 use mathlib.Core.Path.{_≡_, refl, sym, _∙_, subst}
-use mathlib.Core.Logic.{_≢_, by-cases}
+use mathlib.Core.Logic.{_≢_, inr, by-cases}
 use mathlib.Core.Bool.{Bool, true, false, _&&_, not, true≢false, false≢true}
 use mathlib.Core.List.{List, [], _∷_, _++_}
 use lib.ListN.{length}
@@ -31,7 +32,7 @@ use Rattle.base.proofs.Tests.{and-true, and-yes}
 use Rattle.answer.specs.Answer.{Answer, done, refused, By}
 use Rattle.answer.specs.Cause.{Cause, cause, lowest}
 use Rattle.answer.proofs.Causes.{none-holds, Lowest, lowest-is, by-accepted}
-use Rattle.marks.specs.Marks.{LawfulMarks, CardInRange, marked-chips, is-marked, in-range, two-equal, marks-cause}
+use Rattle.marks.specs.Marks.{LawfulMarks, CardInRange, fresh-marks, marked-chips, is-marked, in-range, two-equal, marks-cause}
 use Rattle.marks.specs.Marks.{card-byte, bytes, of-bytes, marks-in}
 use Rattle.marks.specs.Mark.{of-chips, insert, remove, marked, asked-in-range, too-many, absent, mark-cause, MarkDone}
 use Rattle.marks.specs.declared.CardMark.{CardMark}
@@ -43,6 +44,9 @@ use Rattle.marks.proofs.Tests.{places-test, lawful-range, lawful-two, t
 use Rattle.marks.proofs.Few.{places-few, places-count, places-back, few-lawful, added, removed}
 
 -- ---- a record is lawful exactly when no cause is given
+pub fresh-lawful : LawfulMarks fresh-marks
+fresh-lawful = record { card = tt; count = omega arith; first = inr (refl, refl); second = inr (omega arith, refl); differ = λ e. absurd (omega arith) }
+
 pub lawful-cause : (m : Marks) → LawfulMarks m → marks-cause m ≡ 0
 unfolding marks-cause
 lawful-cause m l = simp (lawful-range l, lawful-two l)

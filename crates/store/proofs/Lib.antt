@@ -1,7 +1,8 @@
 pub mod Written
 pub mod Pairs
 pub mod Solved
+pub mod Shifts
 pub mod Storing
 pub mod Tied
 pub mod Decided
-pub mod Constants
+pub mod Worked

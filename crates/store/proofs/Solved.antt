@@ -2,7 +2,8 @@
 --
 --   solved-once, solved-squared   with them the two sums become 0
 --   any-factors         every set of labels has such factors
---   built-in-factors    those of the built-in labels
+--   same-scale          two inverses of one value take a byte to the same
+--   built-in-factors    those of the built-in labels; by-figures: any factors of theirs give the same
 use mathlib.Core.Logic.{_≢_}
 use mathlib.Core.Path.{_≡_, refl, sym, ap, ap₂, _∙_, subst}
 use mathlib.Core.List.{List}
@@ -15,8 +16,9 @@ use Rattle.field.proofs.Gf256.{field}
 use Rattle.field.proofs.Ring.{ring, zero-divisor}
 use Rattle.code.specs.Block.{byte}
 use Rattle.code.specs.Labels.{built-in, LabelSet}
-use Rattle.code.proofs.BuiltIn.{figures, in-figures}
+use Rattle.code.proofs.BuiltIn.{figures, in-figures, built-in-set}
 use Rattle.code.proofs.Blocks.{label-below}
+use Rattle.sums.specs.Words.{paired}
 use Rattle.store.specs.Factors.{D, E, Factors}
 
 -- (sorting wants the product as a variable, not as an abbreviation)
@@ -75,9 +77,50 @@ any-factors labels set = record {
   k-is = refl;
 }
 
+-- ---- they are one set
+-- (sorting wants the product as a variable, not as an abbreviation)
+module _ (_∗_ : ℕ → ℕ → ℕ) (F : IsField 8 _∗_) (T U Z X : ℕ) where
+  infixl 70 _∗_
+  turned : T ∗ ((U ∗ Z) ∗ X) ≡ (T ∗ Z) ∗ (U ∗ X)
+  turned = simp (ring, F)
+
+-- two inverses of Z take a byte to the same
+same-scale : (T U Z X : ℕ) → X < 2 ^ 8 → T · Z ≡ 1 → U · Z ≡ 1 → T · X ≡ U · X
+same-scale T U Z X h e f =
+    ap (λ (x : ℕ). T · x) (sym (field .one X h) ∙ ap (λ (x : ℕ). x · X) (sym f)) ∙ turned _·_ field T U Z X
+    ∙ ap (λ (x : ℕ). x · (U · X)) e ∙ field .one (U · X) (field .below U X)
+
 figured : Factors figures 26 243 136 247
 unfolding figures product remainder polynomial-product sum _⊕_
 figured = record { T = 52; one = refl; f-is = refl; g-is = refl; h-is = refl; k-is = refl }
 
 pub built-in-factors : (f g h k : ℕ) → f ≡ 26 → g ≡ 243 → h ≡ 136 → k ≡ 247 → Factors built-in f g h k
 built-in-factors f g h k p q r s = rw (p, q, r, s) (subst (λ (l : List ℕ). Factors l 26 243 136 247) (sym in-figures) figured)
+
+-- any factors of the built-in labels are these
+pub by-figures : (s t f g h k : ℕ) → Factors built-in f g h k
+    → paired ((s · 26) ⊕ (t · 243)) ((s · 136) ⊕ (t · 247)) ≡ paired ((s · f) ⊕ (t · g)) ((s · h) ⊕ (t · k))
+by-figures s t f g h k F =
+    ap₂ paired
+    (ap₂ (λ (x y : ℕ). (s · x) ⊕ (t · y))
+    (known .f-is ∙ same (e · e) (field .below e e) ∙ sym (F .f-is)) (known .g-is ∙ same e e-below ∙ sym (F .g-is)))
+    (ap₂ (λ (x y : ℕ). (s · x) ⊕ (t · y))
+    (known .h-is ∙ same (d · d) (field .below d d) ∙ sym (F .h-is)) (known .k-is ∙ same d d-below ∙ sym (F .k-is)))
+  where
+    known : Factors built-in 26 243 136 247
+    known = built-in-factors 26 243 136 247 refl refl refl refl
+
+    d : ℕ
+    d = D built-in
+
+    e : ℕ
+    e = E built-in
+
+    d-below : D built-in < 2 ^ 8
+    d-below = add-lt 8 (byte built-in 34) (byte built-in 43) (label-below built-in built-in-set 34) (label-below built-in built-in-set 43)
+
+    e-below : E built-in < 2 ^ 8
+    e-below = add-lt 8 (byte built-in 35) (byte built-in 44) (label-below built-in built-in-set 35) (label-below built-in built-in-set 44)
+
+    same : (x : ℕ) → x < 2 ^ 8 → known .T · x ≡ F .T · x
+    same x l = same-scale (known .T) (F .T) ((D built-in · E built-in) · (D built-in ⊕ E built-in)) x l (known .one) (F .one)

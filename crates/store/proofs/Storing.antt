@@ -6,7 +6,7 @@ use mathlib.Core.Logic.{_≢_, _⊎_, inl, inr}
 use mathlib.Core.Path.{_≡_, refl, sym, ap, ap₂, _∙_, subst}
 use mathlib.Core.Bool.{Bool, not}
 use mathlib.Core.List.{List, [], _∷_}
-use Prim.Native.Nat.{ℕ, _+_, _/_, _<_, _≤_, _^_}
+use Prim.Native.Nat.{ℕ, _+_, _-_, _/_, _<_, _≤_, _^_}
 use native.Mathlib.Decide.{decLt}
 use native.Mathlib.Omega.{arith}
 use lib.Dec.{eqb}
@@ -28,7 +28,9 @@ use Rattle.code.specs.Block.{byte, position, Block, Lawful, OneMember, Stored}
 use Rattle.code.specs.Labels.{built-in, LabelSet}
 use Rattle.base.proofs.Few.{few-two}
 use Rattle.code.proofs.Unique.{alike}
-use Rattle.store.specs.Steps.{chip-sum, Begun, in-row}
+use Rattle.sums.specs.Sums.{chip-sum, begun}
+use Rattle.sums.proofs.Begun.{begun-front, begun-card}
+use Rattle.store.specs.Steps.{Begun, in-row}
 use Rattle.store.specs.Store.{store-cause, StoreDone}
 use Rattle.store.proofs.Written.{in-row-at, in-row-length}
 use Rattle.store.proofs.Pairs.{row-kept, sum-moved}
@@ -40,17 +42,38 @@ square : (a b : ℕ) → (a · a) ⊕ (b · b) ≡ (a ⊕ b) · (a ⊕ b)
 square a b = sym (square-add 8 _·_ field a b)
 
 -- ---- the 45 bytes written first meet the rows
-rows-met : (rec b : List ℕ) → Begun rec b → (i : ℕ) → i < 9 → sum 5 (λ k. byte b (position k i)) ≡ 0
+rows-met : (rec card b : List ℕ) → ((i : ℕ) → i < 9 → byte card i ≡ chip-sum rec i) → Begun rec card b → (i : ℕ) → i < 9
+    → sum 5 (λ k. byte b (position k i)) ≡ 0
 unfolding chip-sum sum
-rows-met rec b w i h =
-    ap₂ (λ (x y : ℕ). x ⊕ y) (w .card i h)
+rows-met rec card b hc w i h =
+    ap₂ (λ (x y : ℕ). x ⊕ y) (w .card-is i h ∙ hc i h)
     (sum-ext 4 (λ k. byte b (position k i)) (λ k. byte rec (position k i)) (λ k l. w .front (position k i) (omega arith)))
     ∙ add-self (sum 4 (λ k. byte rec (position k i)))
 
 module _ (labels : List ℕ) (set : LabelSet labels) (f g h k : ℕ) (F : Factors labels f g h k)
-    (rec b b₁ b₂ : List ℕ) (lr : length rec ≡ 34) (below : (p : ℕ) → byte b p < 2 ^ 8) (w : Begun rec b)
-    (s t x y : ℕ) (s-is : s ≡ sum 45 (λ p. byte labels p · byte b p)) (t-is : t ≡ sum 45 (λ p. (byte labels p · byte labels p) · byte b p))
+    (rec card b b₁ b₂ : List ℕ) (lr : length rec ≡ 34) (below : (p : ℕ) → byte b p < 2 ^ 8)
+    (hc : (i : ℕ) → i < 9 → byte card i ≡ chip-sum rec i) (w : Begun rec card b)
+    (s t x y : ℕ) (s-by : s ≡ sum 45 (λ p. byte labels p · begun rec p)) (t-by : t ≡ sum 45 (λ p. (byte labels p · byte labels p) · begun rec p))
     (x-is : x ≡ (s · f) ⊕ (t · g)) (y-is : y ≡ (s · h) ⊕ (t · k)) (e₁ : b₁ ≡ in-row b 34 x) (e₂ : b₂ ≡ in-row b₁ 35 y) where
+  -- the label sums of the block begun
+  at-begun : (p : ℕ) → p < 45 → begun rec p ≡ byte b p
+  at-begun p l = pick (decLt p 36)
+    where
+      pick : Dec (p < 36) → begun rec p ≡ byte b p
+      pick (yes a) = begun-front rec p a ∙ sym (w .front p a)
+      pick (no a) =
+          let e : p ≡ 36 + (p - 36) = omega arith in
+          ap (begun rec) e ∙ begun-card rec (p - 36) ∙ sym (hc (p - 36) (omega arith)) ∙ sym (w .card-is (p - 36) (omega arith)) ∙ ap (byte b) (sym e)
+
+  s-is : s ≡ sum 45 (λ p. byte labels p · byte b p)
+  s-is = s-by ∙ sum-ext 45 (λ p. byte labels p · begun rec p) (λ p. byte labels p · byte b p) (λ p l. ap (λ (z : ℕ). byte labels p · z) (at-begun p l))
+
+  t-is : t ≡ sum 45 (λ p. (byte labels p · byte labels p) · byte b p)
+  t-is =
+      t-by
+      ∙ sum-ext 45 (λ p. (byte labels p · byte labels p) · begun rec p) (λ p. (byte labels p · byte labels p) · byte b p)
+      (λ p l. ap (λ (z : ℕ). (byte labels p · byte labels p) · z) (at-begun p l))
+
   long₁ : length b₁ ≡ 45
   long₁ = ap length e₁ ∙ in-row-length b 34 x ∙ w .long
 
@@ -77,7 +100,8 @@ module _ (labels : List ℕ) (set : LabelSet labels) (f g h k : ℕ) (F : Factor
 
   lawful : Lawful labels b₂
   lawful = record {
-    chips = λ i l. row-kept 8 y (omega arith) (byte b₁) (byte b₂) at₂ i l ∙ row-kept 7 x (omega arith) (byte b) (byte b₁) at₁ i l ∙ rows-met rec b w i l;
+    chips = λ i l. row-kept 8 y (omega arith) (byte b₁) (byte b₂) at₂ i l ∙ row-kept 7 x (omega arith) (byte b) (byte b₁) at₁ i l
+        ∙ rows-met rec card b hc w i l;
     once = moved (byte labels) ∙ ap₂ (λ (p q : ℕ). p ⊕ q) (sym s-is) (solved-once labels f g h k F s t x y s-below t-below x-is y-is) ∙ add-self s;
     squared = moved (λ q. byte labels q · byte labels q)
         ∙ ap₂ (λ (p q : ℕ). p ⊕ q) (sym t-is)

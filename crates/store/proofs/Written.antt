@@ -1,14 +1,13 @@
 -- Lists that the code writes place by place.
 --
 --   written      a loop's stores: what holds at the places passed holds at one more
---   four-bytes   a chip's bytes on cards 0 to 3, as the code adds them; three-bytes: where card 3 has none
 --   begun        the record copied in, two zeros, and card 4
 --   added-at, in-row-at, in-row-length   a block after an amount is added at a place, and at two places of a row
 use mathlib.Core.Logic.{_≢_, _⊎_, inl, inr}
 use mathlib.Core.Path.{_≡_, sym, ap, ap₂, _∙_, subst}
 use mathlib.Core.Bool.{Bool}
 use mathlib.Core.List.{List}
-use Prim.Native.Nat.{ℕ, _+_, _*_, _<_, _≤_}
+use Prim.Native.Nat.{ℕ, _+_, _<_, _≤_}
 use native.Mathlib.Omega.{arith}
 use lib.Dec.{eqb}
 use lib.ListN.{length, set, length-set, List·getD-eq-default}
@@ -16,11 +15,11 @@ use lib.Seq.{getD-set-same, getD-set-other}
 use borrow.Author.Count.{below-more}
 use borrow.Author.Tests.{eq-eqb, ne-eqb}
 use Rattle.base.proofs.Tests.{same}
-use Rattle.field.specs.Field.{_⊕_, sum}
-use Rattle.field.proofs.Xor.{add-zero, sums}
+use Rattle.field.specs.Field.{_⊕_}
+use Rattle.field.proofs.Xor.{add-zero}
 use Rattle.code.specs.Block.{byte}
 use Rattle.base.specs.Base.{if}
-use Rattle.store.specs.Steps.{chip-sum, Copied, Filled, Begun, added, in-row}
+use Rattle.store.specs.Steps.{Copied, Filled, Begun, added, in-row}
 
 -- place k of the loop is at k of the list
 pub written : (at : ℕ → ℕ) (P : ℕ → ℕ → Type 0) (l : List ℕ) (i v : ℕ) → at i < length l → ((k : ℕ) → k < i → at k ≢ at i)
@@ -30,28 +29,13 @@ written at P l i v h apart passed new =
     (λ k g. subst (P k) (sym (getD-set-other l (at i) (at k) v 0 (apart k g))) (passed k g))
     (subst (P i) (sym (getD-set-same l (at i) v 0 h)) new)
 
--- ---- a chip's bytes
-pub four-bytes : (rec : List ℕ) (i : ℕ) → byte rec i ⊕ byte rec (i + 9) ⊕ byte rec (i + 18) ⊕ byte rec (i + 27) ≡ chip-sum rec i
-unfolding chip-sum sum
-four-bytes rec i =
-    let e₀ : 9 * 0 + i ≡ i = omega arith in
-    let e₁ : 9 * 1 + i ≡ i + 9 = omega arith in
-    let e₂ : 9 * 2 + i ≡ i + 18 = omega arith in
-    let e₃ : 9 * 3 + i ≡ i + 27 = omega arith in
-    rw (e₀, e₁, e₂, e₃) (simp sums)
-
-pub three-bytes : (rec : List ℕ) (i : ℕ) → length rec ≤ i + 27 → byte rec i ⊕ byte rec (i + 9) ⊕ byte rec (i + 18) ≡ chip-sum rec i
-three-bytes rec i h =
-    sym (add-zero (byte rec i ⊕ byte rec (i + 9) ⊕ byte rec (i + 18)))
-    ∙ ap (λ (x : ℕ). byte rec i ⊕ byte rec (i + 9) ⊕ byte rec (i + 18) ⊕ x) (sym (List·getD-eq-default rec 0 {n = i + 27} h)) ∙ four-bytes rec i
-
 -- ---- the 45 bytes written first
-pub begun : (rec z own out a b : List ℕ) → length rec ≡ 34 → length z ≡ 34 → length out ≡ 45 → Copied rec z own → Copied own out a
-    → Filled rec (set (set a 34 0) 35 0) b → Begun rec b
-begun rec z own out a b lr lz lo c₁ c₂ f = record {
+pub begun : (rec card z own out a b : List ℕ) → length rec ≡ 34 → length z ≡ 34 → length out ≡ 45 → Copied rec z own → Copied own out a
+    → Filled card (set (set a 34 0) 35 0) b → Begun rec card b
+begun rec card z own out a b lr lz lo c₁ c₂ f = record {
   long = f .long ∙ length-set (set a 34 0) 35 0 ∙ length-set a 34 0 ∙ c₂ .long ∙ lo;
   front = λ p h. f .front p h ∙ at p h (same p 35) (same p 34);
-  card = f .card;
+  card-is = f .card-is;
 }
   where
     la : length a ≡ 45

@@ -4,20 +4,20 @@
 --   byte-of-next     byte i + 1 is byte i of what is above the lowest byte
 --   byte-of-zero     every byte of 0 is 0
 --   same-bytes       words of n bytes that are the same are the same; zero-bytes: a word of n bytes that are all 0 is 0
---   eight-bytes      eight bytes, each shifted to its place, as the code puts them together
+--   placed           n bytes, each shifted to its place
 use mathlib.Core.Logic.{_≢_, _⊎_, inl, inr}
 use mathlib.Core.Path.{_≡_, sym, ap, _∙_, subst}
 use mathlib.Core.Bool.{Bool}
-use Prim.Native.Nat.{ℕ, zero, suc, _+_, _*_, _-_, _/_, _%_, _^_, _<_, _≤_}
+use Prim.Native.Nat.{ℕ, zero, suc, _+_, _*_, _-_, _/_, _%_, _^_, _<_}
 use native.Mathlib.Nat.{mod-lt, mod-eq-of-lt, div-eq-of-lt, lt-of-lt-of-le, mul-assoc, mul-mod-left}
 use native.Mathlib.Decide.{decLt}
 use native.Mathlib.Omega.{arith}
 use lib.Dec.{eqb}
-use lib.Pow.{pow-pos, pow-add, pow-mono, shl-lt, shl-exact, shl-shr, shr-shr, shr-lt}
+use lib.Pow.{pow-pos, pow-add, pow-mono, shl-lt, shl-shr, shr-shr, shr-lt}
 use borrow.Author.Tests.{eq-eqb, ne-eqb}
 use Rattle.base.proofs.Tests.{same}
-use Rattle.field.specs.Field.{_⊕_, sum}
-use Rattle.field.proofs.Xor.{add-shr, add-mod, sums}
+use Rattle.field.specs.Field.{sum}
+use Rattle.field.proofs.Xor.{add-shr, add-mod}
 use Rattle.field.proofs.Linear.{Additive, at-zero}
 use Rattle.field.proofs.Sum.{sum-ext, sum-one}
 use Rattle.base.specs.Base.{if}
@@ -87,31 +87,8 @@ module _ (x : ℕ) (h : x < 2 ^ 8) where
       pick (inr n) (no l) = below i k (omega arith) ∙ sym (ap (λ (t : Bool). if t x 0) (ne-eqb i k n))
 
 -- n bytes, each at its place
-placed : (n : ℕ) (f : ℕ → ℕ) → ((i : ℕ) → f i < 2 ^ 8) → (k : ℕ) → k < n → byte-of (sum n (λ i. f i * 2 ^ (8 * i))) k ≡ f k
+pub placed : (n : ℕ) (f : ℕ → ℕ) → ((i : ℕ) → f i < 2 ^ 8) → (k : ℕ) → k < n → byte-of (sum n (λ i. f i * 2 ^ (8 * i))) k ≡ f k
 placed n f h k l =
     through (λ u. byte-of u k) (byte-of-add k) n (λ i. f i * 2 ^ (8 * i))
     ∙ sum-ext n (λ i. byte-of (f i * 2 ^ (8 * i)) k) (λ i. if (eqb i k) (f i) 0) (λ i z. shifted (f i) (h i) i k)
     ∙ sum-one n k f l
-
-pub eight-bytes : (f : ℕ → ℕ) → ((i : ℕ) → f i < 2 ^ 8) → (k : ℕ) → k < 8
-    → byte-of (f 0 * 2 ^ 0 % 2 ^ 64 ⊕ f 1 * 2 ^ 8 % 2 ^ 64 ⊕ f 2 * 2 ^ 16 % 2 ^ 64 ⊕ f 3 * 2 ^ 24 % 2 ^ 64
-    ⊕ f 4 * 2 ^ 32 % 2 ^ 64 ⊕ f 5 * 2 ^ 40 % 2 ^ 64 ⊕ f 6 * 2 ^ 48 % 2 ^ 64 ⊕ f 7 * 2 ^ 56 % 2 ^ 64) k ≡ f k
-unfolding sum
-eight-bytes f h k l = ap (λ (u : ℕ). byte-of u k) as-sum ∙ placed 8 f h k l
-  where
-    x : (i s : ℕ) → s ≤ 56 → f i * 2 ^ s % 2 ^ 64 ≡ f i * 2 ^ s
-    x i s l = shl-exact 8 s 64 (h i) (omega arith)
-
-    as-sum : f 0 * 2 ^ 0 % 2 ^ 64 ⊕ f 1 * 2 ^ 8 % 2 ^ 64 ⊕ f 2 * 2 ^ 16 % 2 ^ 64 ⊕ f 3 * 2 ^ 24 % 2 ^ 64
-        ⊕ f 4 * 2 ^ 32 % 2 ^ 64 ⊕ f 5 * 2 ^ 40 % 2 ^ 64 ⊕ f 6 * 2 ^ 48 % 2 ^ 64 ⊕ f 7 * 2 ^ 56 % 2 ^ 64 ≡ sum 8 (λ i. f i * 2 ^ (8 * i))
-    as-sum =
-        rw (
-          x 0 0 (omega arith),
-          x 1 8 (omega arith),
-          x 2 16 (omega arith),
-          x 3 24 (omega arith),
-          x 4 32 (omega arith),
-          x 5 40 (omega arith),
-          x 6 48 (omega arith),
-          x 7 56 (omega arith),
-        ) (simp sums)

@@ -1,37 +1,26 @@
 -- A map made of shifts, masks and sums is additive, so that it is known by its values at the powers of 2.
 --
---   low, part, up                          a mask; a shift down and a mask; a shift up in 64 digits
---   quotient, less                         how often the modulus goes into a polynomial, and what is left
---   by-quotient-is, by-quotient-below      that is the remainder, and a byte
---   folding                                three folds, by their masks and shifts
---   folded, folded2                        the bytes of a word as a polynomial at x and at x squared, not yet reduced
---   folded-below, folded2-below            its degree is 21 at most
---   first-is, second-is                    reduced, it is the value at the point
-use mathlib.Core.Path.{_≡_, refl, sym, ap, ap₂, _∙_, subst}
+--   after, low-add, part-add, up-add   maps one after the other, masks and shifts are additive
+--   paired-add                    pairs are added byte by byte; no-pair: that of 0 and 0 is 0
+--   lesser, lesser-is             the code's reduction of two polynomials 32 digits apart, and what it comes to
+--   halves, both                  the bytes of a word as a polynomial at x, and 32 digits up at x squared, not yet reduced
+--   both-is                       reduced, it is the value at both points
+--   paired-digits                 two bytes 32 digits apart as one number; first-of, second-of: each of the two, taken from it
+--   once-from, squared-from       each of the two points' values, taken from both
+use mathlib.Core.Path.{_≡_, refl, sym, ap, ap₂, _∙_}
 use Prim.Native.Nat.{ℕ, _+_, _*_, _/_, _%_, _^_, _<_, min}
-use native.Mathlib.Nat.{mod-eq-of-lt, mod-lt}
+use native.Mathlib.Omega.{arith}
 use lib.Arith.{bin-ind}
-use lib.Bits.{bitAnd, bitXor, differ, and-step, xor-step, xor-shr, xor-mod, and-shr, and-mod, and-mask}
-use lib.Dec.{T, eqb, ltb, ltb→lt}
-use lib.Pow.{pow-pos}
+use lib.Bits.{bitAnd, bitXor, differ, and-step, xor-step, xor-shr, xor-mod, and-shr, and-mod, xor-shifted, xor-comm}
+use lib.Dec.{T, eqb}
 use Rattle.field.specs.Field.{_⊕_, sum, polynomial-product, remainder, product}
-use Rattle.base.proofs.Tests.{every, every-at}
-use Rattle.field.proofs.Xor.{sums, add-shr, add-mod}
+use Rattle.base.proofs.Tests.{every}
+use Rattle.field.proofs.Xor.{sums, add-shr, add-mod, swap}
 use Rattle.field.proofs.Remainder.{times-pow-add, remainder-add}
-use Rattle.field.proofs.Linear.{bit-lt, bit-ind, Additive, additive-below}
-use Rattle.sums.specs.Words.{at-point, reduced}
-use Rattle.sums.proofs.Points.{at-point-add, agree}
-
--- the digits of v in the mask m; of v shifted down by s
-unfoldable pub low : ℕ → ℕ → ℕ
-low m v = bitAnd v m
-
-unfoldable pub part : ℕ → ℕ → ℕ → ℕ
-part s m v = bitAnd (v / 2 ^ s) m
-
--- v shifted up by s in 64 digits
-unfoldable pub up : ℕ → ℕ → ℕ
-up s v = v * 2 ^ s % 2 ^ 64
+use Rattle.field.proofs.Linear.{bit-lt, bit-ind, Additive}
+use Rattle.sums.specs.Words.{byte-of, at-point, paired, at-both, reduced}
+use Rattle.sums.specs.Maps.{low, part, up}
+use Rattle.sums.proofs.Points.{at-point-add, at-point-below, agree}
 
 digit : (x y z : ℕ) → x < 2 → y < 2 → z < 2 → min (bitXor x y) z ≡ differ (bitAnd x z) (bitAnd y z)
 digit x y z hx hy hz =
@@ -54,120 +43,110 @@ raw-and =
     ∙ sym (ap₂ (λ (x y : ℕ). bitXor (bitAnd n m / 2) x * 2 + differ (bitAnd n m % 2) y) (and-shr b m 1) (and-mod b m 1))
     ∙ sym (xor-step (bitAnd n m) (bitAnd b m)))
 
-low-add : (m : ℕ) → Additive (low m)
+pub low-add : (m : ℕ) → Additive (low m)
 unfolding low _⊕_
 low-add m a b = raw-and a b m
 
-part-add : (s m : ℕ) → Additive (part s m)
+pub part-add : (s m : ℕ) → Additive (part s m)
 unfolding part _⊕_
 part-add s m a b = ap (λ (x : ℕ). bitAnd x m) (xor-shr a b s) ∙ raw-and (a / 2 ^ s) (b / 2 ^ s) m
 
-after : (f g : ℕ → ℕ) → Additive f → Additive g → Additive (λ a. f (g a))
+pub after : (f g : ℕ → ℕ) → Additive f → Additive g → Additive (λ a. f (g a))
 after f g hf hg a b = ap f (hg a b) ∙ hf (g a) (g b)
 
-up-add : (s : ℕ) → Additive (up s)
+pub up-add : (s : ℕ) → Additive (up s)
 unfolding up
 up-add s a b = ap (λ (x : ℕ). x % 2 ^ 64) (times-pow-add a b s) ∙ add-mod (a * 2 ^ s) (b * 2 ^ s) 64
 
--- ---- the reduction
--- how often the modulus goes into h times x ^ 8: it goes into x ^ 8 1 + x ^ -4 + x ^ -5 + x ^ -6 + x ^ -10 + x ^ -13 + .. times
-unfoldable pub quotient : ℕ → ℕ
-quotient h = h ⊕ (h / 2 ^ 4) ⊕ (h / 2 ^ 5) ⊕ (h / 2 ^ 6) ⊕ (h / 2 ^ 10) ⊕ (h / 2 ^ 13)
+pub paired-add : (a b c d : ℕ) → paired (a ⊕ b) (c ⊕ d) ≡ paired a c ⊕ paired b d
+paired-add a b c d = ap (λ (x : ℕ). (a ⊕ b) ⊕ x) (times-pow-add c d 32) ∙ swap a b (c * 2 ^ 32) (d * 2 ^ 32)
 
--- v less q times the modulus x ^ 8 + x ^ 4 + x ^ 3 + x ^ 2 + 1, its eight low digits
-unfoldable pub less : ℕ → ℕ → ℕ
-less q v = low 0xff (v ⊕ q ⊕ up 2 q ⊕ up 3 q ⊕ up 4 q)
+pub no-pair : paired 0 0 ≡ 0
+unfolding _⊕_
+no-pair = refl
 
-quotient-add : Additive quotient
-unfolding quotient
-quotient-add a b = simp (add-shr, sums)
+-- ---- two polynomials 32 digits apart, each by the modulus: how often it goes into them, by digits that are bits, and what is left
+unfoldable pub quotients : ℕ → ℕ
+quotients v =
+    let h : ℕ = part 8 0x00003fff00003fff v in
+    low 0x000000ff000000ff (h ⊕ ((h ⊕ ((h ⊕ ((h ⊕ ((h ⊕ (h / 2 ^ 3)) / 2 ^ 4)) / 2 ^ 1)) / 2 ^ 1)) / 2 ^ 4))
 
-abbrev pub by-quotient : ℕ → ℕ
-by-quotient v = less (quotient (v / 2 ^ 8)) v
+unfoldable pub lesser : ℕ → ℕ
+lesser v =
+    let q : ℕ = quotients v in
+    low 0x000000ff000000ff (v ⊕ q ⊕ up 2 (q ⊕ up 1 (q ⊕ up 1 q)))
 
-by-quotient-add : Additive by-quotient
-unfolding less
-by-quotient-add a b = simp (low-add, up-add, quotient-add, add-shr, sums)
+quotients-add : Additive quotients
+unfolding quotients
+quotients-add a b = simp (low-add, part-add, add-shr, sums)
 
-reduced-add : Additive reduced
+lesser-add : Additive lesser
+unfolding lesser
+lesser-add a b = simp (quotients-add, low-add, up-add, sums)
+
+pub reduced-add : Additive reduced
 unfolding reduced
-reduced-add = remainder-add 8 0x11D 14
+reduced-add a b =
+    ap₂ paired
+    (ap (remainder 8 0x11D 14) (add-mod a b 22) ∙ remainder-add 8 0x11D 14 (a % 2 ^ 22) (b % 2 ^ 22))
+    (ap (λ (x : ℕ). remainder 8 0x11D 14 (x % 2 ^ 22)) (add-shr a b 32) ∙ ap (remainder 8 0x11D 14) (add-mod (a / 2 ^ 32) (b / 2 ^ 32) 22)
+    ∙ remainder-add 8 0x11D 14 (a / 2 ^ 32 % 2 ^ 22) (b / 2 ^ 32 % 2 ^ 22))
+    ∙ paired-add (remainder 8 0x11D 14 (a % 2 ^ 22)) (remainder 8 0x11D 14 (b % 2 ^ 22)) (remainder 8 0x11D 14 (a / 2 ^ 32 % 2 ^ 22))
+    (remainder 8 0x11D 14 (b / 2 ^ 32 % 2 ^ 22))
 
-quotient-test : T (every (λ i. eqb (by-quotient (2 ^ i)) (reduced (2 ^ i))) 22)
-unfolding low up quotient less reduced remainder _⊕_
-quotient-test = tt
+lesser-test : T (every (λ i. eqb (lesser (2 ^ i)) (reduced (2 ^ i))) 64)
+unfolding low part up quotients lesser reduced remainder _⊕_
+lesser-test = tt
 
-pub by-quotient-is : (v : ℕ) → v < 2 ^ 22 → by-quotient v ≡ reduced v
-by-quotient-is = agree by-quotient reduced by-quotient-add reduced-add 22 quotient-test
+pub lesser-is : (v : ℕ) → v < 2 ^ 64 → lesser v ≡ reduced v
+lesser-is = agree lesser reduced lesser-add reduced-add 64 lesser-test
 
--- eight digits fit a byte
-low-below : (v : ℕ) → low 0xff v < 2 ^ 8
-unfolding low
-low-below v = subst (λ (x : ℕ). x < 2 ^ 8) (sym (and-mask v 8)) (mod-lt v (pow-pos 8))
+-- ---- both points at once, the second 32 digits up
+unfoldable pub halves : (s t : ℕ) → ℕ → ℕ
+halves s t u =
+    let odd : ℕ = part 8 0x00ff00ff00ff00ff u in
+    let one : ℕ = low 0x00ff00ff00ff00ff u ⊕ up s odd in
+    low 0x0000ffff0000ffff (one ⊕ (one / 2 ^ t))
 
-pub by-quotient-below : (v : ℕ) → by-quotient v < 2 ^ 8
-unfolding less
-by-quotient-below v = let q : ℕ = quotient (v / 2 ^ 8) in low-below (v ⊕ q ⊕ up 2 q ⊕ up 3 q ⊕ up 4 q)
+unfoldable pub both : ℕ → ℕ
+both u =
+    let pairs : ℕ = halves 1 14 u in
+    let fours : ℕ = halves 2 12 u in
+    low 0xffffffff (pairs ⊕ (pairs / 2 ^ 28)) ⊕ up 32 (fours ⊕ (fours / 2 ^ 24))
 
--- ---- the folds
-abbrev pub pair : ℕ → ℕ → ℕ → ℕ → ℕ
-pair m s n u = low m u ⊕ part s n u
+halves-add : (s t : ℕ) → Additive (halves s t)
+unfolding halves
+halves-add s t a b = simp (low-add, part-add, up-add, add-shr, sums)
 
-pair-add : (m s n : ℕ) → Additive (pair m s n)
-pair-add m s n a b = simp (low-add, part-add, sums)
+both-add : Additive both
+unfolding both
+both-add a b = simp (halves-add, low-add, up-add, add-shr, sums)
 
--- three folds, each of neighbours
-unfoldable pub folding : (m₁ s₁ n₁ m₂ s₂ n₂ m₃ s₃ n₃ : ℕ) → ℕ → ℕ
-folding m₁ s₁ n₁ m₂ s₂ n₂ m₃ s₃ n₃ u = pair m₃ s₃ n₃ (pair m₂ s₂ n₂ (pair m₁ s₁ n₁ u))
+at-both-add : Additive at-both
+at-both-add a b = simp (at-point-add, times-pow-add, sums)
 
-folding-add : (m₁ s₁ n₁ m₂ s₂ n₂ m₃ s₃ n₃ : ℕ) → Additive (folding m₁ s₁ n₁ m₂ s₂ n₂ m₃ s₃ n₃)
-unfolding folding
-folding-add m₁ s₁ n₁ m₂ s₂ n₂ m₃ s₃ n₃ =
-    after (pair m₃ s₃ n₃) (λ u. pair m₂ s₂ n₂ (pair m₁ s₁ n₁ u)) (pair-add m₃ s₃ n₃)
-    (after (pair m₂ s₂ n₂) (pair m₁ s₁ n₁) (pair-add m₂ s₂ n₂) (pair-add m₁ s₁ n₁))
+both-test : T (every (λ i. eqb (reduced (both (2 ^ i))) (at-both (2 ^ i))) 64)
+unfolding low part up halves both reduced at-point product remainder polynomial-product sum _⊕_
+both-test = tt
 
--- neighbours added, the upper one times x; then pairs, times x ^ 2; then fours, times x ^ 4
-abbrev pub folded : ℕ → ℕ
-folded = folding 0x00ff00ff00ff00ff 7 0x01fe01fe01fe01fe 0x0000ffff0000ffff 14 0x0003fffc0003fffc 0xffff 28 0xffff0
+pub both-is : (u : ℕ) → u < 2 ^ 64 → reduced (both u) ≡ at-both u
+both-is = agree (λ u. reduced (both u)) at-both (after reduced both reduced-add both-add) at-both-add 64 both-test
 
-folded-add : Additive folded
-folded-add = folding-add _ _ _ _ _ _ _ _ _
+-- ---- one of two
+pub paired-digits : (a b : ℕ) → a < 2 ^ 8 → paired a b ≡ b * 2 ^ 32 + a
+unfolding _⊕_
+paired-digits a b h = xor-comm a (b * 2 ^ 32) ∙ xor-shifted b 32 a (omega (arith, h))
 
--- the same times x ^ 2, x ^ 4 and x ^ 8
-abbrev pub folded2 : ℕ → ℕ
-folded2 = folding 0x00ff00ff00ff00ff 6 0x03fc03fc03fc03fc 0x0000ffff0000ffff 12 0x000ffff0000ffff0 0xffffff 24 0xffffff00
+pub first-of : (a b : ℕ) → a < 2 ^ 8 → byte-of (paired a b) 0 ≡ a
+unfolding byte-of
+first-of a b h = omega (arith, paired-digits a b h, h)
 
-folded2-add : Additive folded2
-folded2-add = folding-add _ _ _ _ _ _ _ _ _
+pub second-of : (a b : ℕ) → a < 2 ^ 8 → b < 2 ^ 8 → byte-of (paired a b) 4 ≡ b
+unfolding byte-of
+second-of a b h g = omega (arith, paired-digits a b h, h, g)
 
--- what a fold gives has degree 21 at most, and reduced it is the bytes' polynomial at a point
-module _ (fold : ℕ → ℕ) (add : Additive fold) where
-  below : T (every (λ i. ltb (fold (2 ^ i)) (2 ^ 22)) 64) → (u : ℕ) → u < 2 ^ 64 → fold u < 2 ^ 22
-  below test u h =
-      subst (λ (x : ℕ). fold x < 2 ^ 22) (mod-eq-of-lt h)
-      (additive-below fold add 22 64 (λ i l. ltb→lt (fold (2 ^ i)) (2 ^ 22) (every-at (λ i. ltb (fold (2 ^ i)) (2 ^ 22)) 64 test i l)) u)
+pub once-from : (u : ℕ) → byte-of (at-both u) 0 ≡ at-point 2 8 u
+once-from u = first-of (at-point 2 8 u) (at-point 4 8 u) (at-point-below 2 8 u)
 
-  at : (c : ℕ) → T (every (λ i. eqb (reduced (fold (2 ^ i))) (at-point c 8 (2 ^ i))) 64) → (u : ℕ) → u < 2 ^ 64 → reduced (fold u) ≡ at-point c 8 u
-  at c = agree (λ u. reduced (fold u)) (at-point c 8) (after reduced fold reduced-add add) (at-point-add c 8) 64
-
-pub folded-below : (u : ℕ) → u < 2 ^ 64 → folded u < 2 ^ 22
-unfolding low part folding _⊕_
-folded-below = below folded folded-add tt
-
-pub folded2-below : (u : ℕ) → u < 2 ^ 64 → folded2 u < 2 ^ 22
-unfolding low part folding _⊕_
-folded2-below = below folded2 folded2-add tt
-
-first-test : T (every (λ i. eqb (reduced (folded (2 ^ i))) (at-point 2 8 (2 ^ i))) 64)
-unfolding low part folding reduced at-point product remainder polynomial-product sum _⊕_
-first-test = tt
-
-second-test : T (every (λ i. eqb (reduced (folded2 (2 ^ i))) (at-point 4 8 (2 ^ i))) 64)
-unfolding low part folding reduced at-point product remainder polynomial-product sum _⊕_
-second-test = tt
-
-pub first-is : (u : ℕ) → u < 2 ^ 64 → reduced (folded u) ≡ at-point 2 8 u
-first-is = at folded folded-add 2 first-test
-
-pub second-is : (u : ℕ) → u < 2 ^ 64 → reduced (folded2 u) ≡ at-point 4 8 u
-second-is = at folded2 folded2-add 4 second-test
+pub squared-from : (u : ℕ) → byte-of (at-both u) 4 ≡ at-point 4 8 u
+squared-from u = second-of (at-point 2 8 u) (at-point 4 8 u) (at-point-below 2 8 u) (at-point-below 4 8 u)

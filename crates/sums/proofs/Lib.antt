@@ -3,7 +3,11 @@ pub mod Bytes
 pub mod Cards
 pub mod Zero
 pub mod Fold
+pub mod Whole
 pub mod Syndrome
+pub mod Begun
+pub mod Next
+pub mod Left
 pub mod Decided
 pub mod Onto
 pub mod Tied

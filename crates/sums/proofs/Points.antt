@@ -4,23 +4,26 @@
 --   through                   an additive map goes through a sum
 --   agree                     two additive maps agree where they do at the powers of 2
 --   at-point-add              a point's value is additive in the word
+--   spread-times-add          a spread number takes sums of bytes to sums
 --   once-at, squared-at       bytes gathered by spread labels: at x the sum of label times byte, at x squared that of label squared times byte
 --   spread-at, spread-length, spread-small   the words of a list of labels
 --   word-fits                 a byte times a word that is small fits 64 bits
 use mathlib.Core.Path.{_≡_, refl, sym, ap, ap₂, _∙_, subst}
 use mathlib.Core.List.{List, [], _∷_}
 use Prim.Native.Nat.{ℕ, zero, suc, _+_, _*_, _/_, _%_, _^_, _<_}
-use native.Mathlib.Nat.{mod-lt, zero-mul, one-mul, mul-comm, mul-assoc, mul-add, mod-eq-of-lt, lt-of-le-of-lt, mul-le-mul}
+use native.Mathlib.Nat.{mod-lt, zero-mul, mul-zero, one-mul, mul-comm, mul-assoc, mul-add, mod-eq-of-lt, lt-of-le-of-lt, mul-le-mul}
 use native.Mathlib.Numerals.{add-one}
 use native.Mathlib.Omega.{arith}
 use lib.Dec.{T, eqb, eqb→eq, lit<}
 use lib.Arith.{digits-div, digits-mod}
 use lib.ListN.{length, getD}
+use lib.Bits.{xor-shifted}
 use lib.Pow.{pow-pos, pow-add}
 use Rattle.field.specs.Field.{_⊕_, _·_, sum, polynomial-product, remainder, product}
 use Rattle.base.proofs.Tests.{every, every-at}
 use Rattle.field.proofs.Xor.{add-self, add-lt, add-shr, add-mod, swap}
-use Rattle.field.proofs.Linear.{bit-lt, bit-ind, Additive, at-zero, additive-ext}
+use Rattle.field.proofs.Linear.{bit-lt, bit-ind, scale-add, Additive, at-zero, additive-ext}
+use Rattle.field.proofs.Remainder.{times-pow-add}
 use Rattle.field.proofs.Gf256.{field}
 use Rattle.field.proofs.Ring.{add-mul, zero-mul as zero-times}
 use Rattle.field.proofs.Sum.{sum-ext}
@@ -67,6 +70,25 @@ unfolding spread-of
 spread-digits n b x =
     mul-add b (spread-of n (x / 2) * 2 ^ 8) (x % 2)
     ∙ ap₂ (λ (y z : ℕ). y + z) (sym (mul-assoc b (spread-of n (x / 2)) (2 ^ 8))) (mul-comm b (x % 2))
+
+-- a spread number takes sums of bytes to sums: no digit of it meets another's
+joined : (a c : ℕ) → c < 2 ^ 8 → a * 2 ^ 8 + c ≡ (a * 2 ^ 8) ⊕ c
+unfolding _⊕_
+joined a c h = sym (xor-shifted a 8 c h)
+
+pub spread-times-add : (n x a b : ℕ) → a < 2 ^ 8 → b < 2 ^ 8 → (a ⊕ b) * spread-of n x ≡ (a * spread-of n x) ⊕ (b * spread-of n x)
+unfolding spread-of
+spread-times-add zero x a b ha hb = simp (mul-zero, add-self)
+spread-times-add (suc n) x a b ha hb =
+    let s : ℕ = spread-of n (x / 2) in
+    let d : ℕ = x % 2 in
+    spread-digits n (a ⊕ b) x
+    ∙ joined ((a ⊕ b) * s) (d * (a ⊕ b)) (scale-lt d (a ⊕ b) (bit-lt x) (add-lt 8 a b ha hb))
+    ∙ ap₂ (λ (y z : ℕ). y ⊕ z) (ap (λ (y : ℕ). y * 2 ^ 8) (spread-times-add n (x / 2) a b ha hb) ∙ times-pow-add (a * s) (b * s) 8)
+    (scale-add d a b (bit-lt x))
+    ∙ swap (a * s * 2 ^ 8) (b * s * 2 ^ 8) (d * a) (d * b)
+    ∙ sym (ap₂ (λ (y z : ℕ). y ⊕ z) (spread-digits n a x ∙ joined (a * s) (d * a) (scale-lt d a (bit-lt x) ha))
+    (spread-digits n b x ∙ joined (b * s) (d * b) (scale-lt d b (bit-lt x) hb)))
 
 digit-lt : (x : ℕ) → x % 2 < 2 ^ 8
 digit-lt x = omega (arith, bit-lt x)

@@ -1,8 +1,8 @@
 -- The sums of a block, and those reduced to a card, for any labels and the words spread from them.
 --
---   once-of, squared-of   the word that gathers a block gives its label sums
+--   once-of, squared-of   the word that gathers 45 bytes gives their label sums; pair-once, pair-squared: as the code takes them from the pair
+--   from-zero             the 45 bytes from place 0 on
 --   built-in-below        the built-in labels are bytes
---   sums-are       what the code works out of a block, from that word, is the block's sums
 --   in-part, no-part      one card's part of the words, as the code has it in figures, is its part of all; above card 4 there is none
 --   reduced-sums   what the word that gathers the rows by card j's words adds to the label sums makes them those of card j's reduced matrix
 use mathlib.Core.Path.{_≡_, sym, ap, ap₂, _∙_, subst}
@@ -20,34 +20,34 @@ use Rattle.code.specs.Labels.{built-in, entry, LabelSet}
 use Rattle.code.proofs.Card.{row, red-sum}
 use Rattle.code.proofs.BuiltIn.{figures, in-figures, built-in-set}
 use Rattle.code.proofs.Blocks.{all-below, label-below}
-use Rattle.sums.specs.Words.{byte-of, spread-of, spread, gathered, at-point}
+use Rattle.sums.specs.Words.{byte-of, spread-of, spread, gathered, at-point, at-both}
 use Rattle.sums.specs.Sums.{rows-of, IsSums, ReducedSums}
 use Rattle.sums.specs.declared.Sums.{Sums}
 use Rattle.sums.proofs.Points.{once-at, squared-at, spread-at, spread-length}
-use Rattle.sums.proofs.Cards.{nine-at}
+use Rattle.sums.proofs.Fold.{once-from, squared-from}
 
 pub built-in-below : (p : ℕ) → byte built-in p < 2 ^ 8
 built-in-below = label-below built-in built-in-set
 
-module _ (labels b words : List ℕ) (hl : (p : ℕ) → byte labels p < 2 ^ 8) (hb : (p : ℕ) → byte b p < 2 ^ 8) (w : words ≡ spread labels)
-    (u : ℕ) (e : u ≡ sum 45 (λ p. byte b p * getD words p 0)) where
-  spreads : (p : ℕ) → p < 45 → getD words p 0 ≡ spread-of 8 (byte labels p)
-  spreads p l = ap (λ (v : List ℕ). getD v p 0) w ∙ spread-at labels p
+-- of 45 bytes, those of a block or of a part of more
+module _ (labels : List ℕ) (b : ℕ → ℕ) (hl : (p : ℕ) → byte labels p < 2 ^ 8) (hb : (p : ℕ) → b p < 2 ^ 8)
+    (u : ℕ) (e : u ≡ sum 45 (λ p. b p * getD (spread labels) p 0)) where
+  pub once-of : at-point 2 8 u ≡ sum 45 (λ p. byte labels p · b p)
+  once-of = ap (at-point 2 8) e ∙ once-at 45 (byte labels) b (λ p. getD (spread labels) p 0) (λ p l. spread-at labels p) (λ p l. hl p) (λ p l. hb p)
 
-  pub once-of : at-point 2 8 u ≡ sum 45 (λ p. byte labels p · byte b p)
-  once-of = ap (at-point 2 8) e ∙ once-at 45 (byte labels) (byte b) (λ p. getD words p 0) spreads (λ p l. hl p) (λ p l. hb p)
+  pub squared-of : at-point 4 8 u ≡ sum 45 (λ p. (byte labels p · byte labels p) · b p)
+  squared-of = ap (at-point 4 8) e ∙ squared-at 45 (byte labels) b (λ p. getD (spread labels) p 0) (λ p l. spread-at labels p) (λ p l. hl p) (λ p l. hb p)
 
-  pub squared-of : at-point 4 8 u ≡ sum 45 (λ p. (byte labels p · byte labels p) · byte b p)
-  squared-of = ap (at-point 4 8) e ∙ squared-at 45 (byte labels) (byte b) (λ p. getD words p 0) spreads (λ p l. hl p) (λ p l. hb p)
+  -- as the code takes them from the pair
+  pub pair-once : (v x : ℕ) → v ≡ at-both u → x ≡ byte-of v 0 → x ≡ sum 45 (λ p. byte labels p · b p)
+  pair-once v x ev ex = ex ∙ ap (λ (y : ℕ). byte-of y 0) ev ∙ once-from u ∙ once-of
 
-  pub sums-are : (s : Sums) → ((i : ℕ) → i < 8 → byte-of (s .low) i ≡ sum 5 (λ j. byte b (position j i))) → s .low < 2 ^ 64
-      → s .high ≡ sum 5 (λ j. byte b (position j 8)) → s .once ≡ at-point 2 8 u → s .squared ≡ at-point 4 8 u → IsSums labels b s
-  sums-are s low eight high once squared = record {
-    rows = nine-at (byte-of (s .low)) (s .high) (λ i x. x ≡ sum 5 (λ j. byte b (position j i))) low high;
-    eight = eight;
-    once = once ∙ once-of;
-    squared = squared ∙ squared-of;
-  }
+  pub pair-squared : (v x : ℕ) → v ≡ at-both u → x ≡ byte-of v 4 → x ≡ sum 45 (λ p. (byte labels p · byte labels p) · b p)
+  pair-squared v x ev ex = ex ∙ ap (λ (y : ℕ). byte-of y 4) ev ∙ squared-from u ∙ squared-of
+
+-- from place 0 on
+pub from-zero : (b : List ℕ) (g : ℕ → ℕ) → sum 45 (λ p. byte b (0 + p) * g p) ≡ sum 45 (λ p. byte b p * g p)
+from-zero b g = sum-ext 45 (λ p. byte b (0 + p) * g p) (λ p. byte b p * g p) (λ p l. ap (λ (q : ℕ). byte b q * g p) (let e : 0 + p ≡ p = omega arith in e))
 
 -- ---- one card's part of the words
 -- r holds card j's nine words
@@ -91,8 +91,8 @@ module _ (labels b : List ℕ) (set : LabelSet labels) (block : Block b) (s : Su
     own-below : (i : ℕ) → i < 9 → byte labels (9 * j + i) < 2 ^ 8
     own-below i l = label-below labels set (9 * j + i)
 
-    pub reduced-sums : (u : ℕ) → u ≡ gathered (rows-of s) 0 words j → ReducedSums labels b j (s .once ⊕ at-point 2 8 u) (s .squared ⊕ at-point 4 8 u)
-    unfolding gathered sum
+    pub reduced-sums : (u : ℕ) → u ≡ gathered (rows-of s) words j → ReducedSums labels b j (s .once ⊕ at-point 2 8 u) (s .squared ⊕ at-point 4 8 u)
+    unfolding gathered
     reduced-sums u e =
         let ls : ℕ → ℕ = λ i. byte labels (9 * j + i) in
         let ws : ℕ → ℕ = λ i. getD words (9 * j + i) 0 in

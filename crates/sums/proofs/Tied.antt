@@ -7,76 +7,137 @@ use denote.Triple.Clauses
 use denote.Ref.{now}
 use mathlib.Core.Path.{_≡_}
 use Rattle.code.specs.Labels.{built-in}
-use Rattle.sums.specs.Words.{spread, gathered, at-point}
-use Rattle.sums.specs.Sums.{rows-of, all-zero, BlockWord, BlockSums}
+use Rattle.sums.specs.Words.{byte-of, spread, gathered, paired, at-both, reduced}
+use Rattle.sums.specs.Sums.{rows-of, all-zero, BlockSums, RecordSums, taken, next, FourLeft}
 use Rattle.sums.proofs.of_block as of-block
 use Rattle.sums.proofs.of_block.Kinds as of-block-kinds
 use Rattle.sums.proofs.of_block.Reads as of-block-reads
-use Rattle.sums.proofs.gather as gather
-use Rattle.sums.proofs.gather.Kinds as gather-kinds
-use Rattle.sums.proofs.gather.Reads as gather-reads
-use Rattle.sums.proofs.card_word as card-word
-use Rattle.sums.proofs.card_word.Kinds as card-word-kinds
-use Rattle.sums.proofs.card_word.Reads as card-word-reads
-use Rattle.sums.proofs.at_x as at-x
-use Rattle.sums.proofs.at_x.Kinds as at-x-kinds
-use Rattle.sums.proofs.at_x.Reads as at-x-reads
-use Rattle.sums.proofs.at_x_squared as at-x-squared
-use Rattle.sums.proofs.at_x_squared.Kinds as at-x-squared-kinds
-use Rattle.sums.proofs.at_x_squared.Reads as at-x-squared-reads
-use Rattle.sums.proofs.rows as rows
-use Rattle.sums.proofs.rows.Kinds as rows-kinds
-use Rattle.sums.proofs.rows.Reads as rows-reads
+use Rattle.sums.proofs.of_record as of-record
+use Rattle.sums.proofs.of_record.Kinds as of-record-kinds
+use Rattle.sums.proofs.of_record.Reads as of-record-reads
+use Rattle.sums.proofs.reduce_pair as reduce-pair
+use Rattle.sums.proofs.reduce_pair.Kinds as reduce-pair-kinds
+use Rattle.sums.proofs.reduce_pair.Reads as reduce-pair-reads
+use Rattle.sums.proofs.once as once
+use Rattle.sums.proofs.once.Kinds as once-kinds
+use Rattle.sums.proofs.once.Reads as once-reads
+use Rattle.sums.proofs.squared as squared
+use Rattle.sums.proofs.squared.Kinds as squared-kinds
+use Rattle.sums.proofs.squared.Reads as squared-reads
+use Rattle.sums.proofs.both as both
+use Rattle.sums.proofs.both.Kinds as both-kinds
+use Rattle.sums.proofs.both.Reads as both-reads
 use Rattle.sums.proofs.is_zero as is-zero
 use Rattle.sums.proofs.is_zero.Kinds as is-zero-kinds
 use Rattle.sums.proofs.is_zero.Reads as is-zero-reads
+use Rattle.sums.proofs.rows as rows
+use Rattle.sums.proofs.rows.Kinds as rows-kinds
+use Rattle.sums.proofs.rows.Reads as rows-reads
+use Rattle.sums.proofs.built_in.on_card as on-card
+use Rattle.sums.proofs.built_in.on_card.Kinds as on-card-kinds
+use Rattle.sums.proofs.built_in.on_card.Reads as on-card-reads
+use Rattle.sums.proofs.built_in.first_card as first-card
+use Rattle.sums.proofs.built_in.first_card.Kinds as first-card-kinds
+use Rattle.sums.proofs.built_in.first_card.Reads as first-card-reads
+use Rattle.sums.proofs.built_in.next_card as next-card
+use Rattle.sums.proofs.built_in.next_card.Kinds as next-card-kinds
+use Rattle.sums.proofs.built_in.next_card.Reads as next-card-reads
+use Rattle.sums.proofs.built_in.four_left as four-left
+use Rattle.sums.proofs.built_in.four_left.Kinds as four-left-kinds
+use Rattle.sums.proofs.built_in.four_left.Reads as four-left-reads
 
 pub of-block-tied : (κs : Lifetimes.Lfts 1) (a : World.ArgsD of-block.signature κs) (r : World.ResD of-block.signature κs)
-    (s : Clauses.AtExit (Kinds.endedOf 1 of-block-kinds.ps of-block-kinds.r) κs) → of-block-reads.Learnt κs a r s → BlockSums (now (a .0)) r (now (s .0))
+    (s : Clauses.AtExit (Kinds.endedOf 1 of-block-kinds.ps of-block-kinds.r) κs) → of-block-reads.Learnt κs a r s
+    → BlockSums (now (a .0)) r (now (s .0))
 of-block-tied κs a r s l = l
 
 pub of-block-asks : (κs : Lifetimes.Lfts 1) (a : World.ArgsD of-block.signature κs) → of-block-reads.Asked κs a
 of-block-asks κs a = tt
 
-pub gather-tied : (κs : Lifetimes.Lfts 1) (a : World.ArgsD gather.signature κs) (r : World.ResD gather.signature κs)
-    (s : Clauses.AtExit (Kinds.endedOf 1 gather-kinds.ps gather-kinds.r) κs) → gather-reads.Learnt κs a r s → BlockWord (now (a .0)) r (now (s .0))
-gather-tied κs a r s l = l
+pub of-record-tied : (κs : Lifetimes.Lfts 1) (a : World.ArgsD of-record.signature κs) (r : World.ResD of-record.signature κs)
+    (s : Clauses.AtExit (Kinds.endedOf 1 of-record-kinds.ps of-record-kinds.r) κs) → of-record-reads.Learnt κs a r s
+    → RecordSums (now (a .0)) r (now (s .0))
+of-record-tied κs a r s l = l
 
-pub gather-asks : (κs : Lifetimes.Lfts 1) (a : World.ArgsD gather.signature κs) → gather-reads.Asked κs a
-gather-asks κs a = tt
+pub of-record-asks : (κs : Lifetimes.Lfts 1) (a : World.ArgsD of-record.signature κs) → of-record-reads.Asked κs a
+of-record-asks κs a = tt
 
-pub card-word-tied : (κs : Lifetimes.Lfts 0) (a : World.ArgsD card-word.signature κs) (r : World.ResD card-word.signature κs)
-    (s : Clauses.AtExit (Kinds.endedOf 0 card-word-kinds.ps card-word-kinds.r) κs) → card-word-reads.Learnt κs a r s
-    → r ≡ gathered (a .0) 0 (spread built-in) (a .1 .0)
-card-word-tied κs a r s l = l
+pub reduce-pair-tied : (κs : Lifetimes.Lfts 0) (a : World.ArgsD reduce-pair.signature κs) (r : World.ResD reduce-pair.signature κs)
+    (s : Clauses.AtExit (Kinds.endedOf 0 reduce-pair-kinds.ps reduce-pair-kinds.r) κs) → reduce-pair-reads.Learnt κs a r s
+    → r ≡ reduced (a .0)
+reduce-pair-tied κs a r s l = l
 
-pub card-word-asks : (κs : Lifetimes.Lfts 0) (a : World.ArgsD card-word.signature κs) → card-word-reads.Asked κs a
-card-word-asks κs a = tt
+pub reduce-pair-asks : (κs : Lifetimes.Lfts 0) (a : World.ArgsD reduce-pair.signature κs) → reduce-pair-reads.Asked κs a
+reduce-pair-asks κs a = tt
 
-pub at-x-tied : (κs : Lifetimes.Lfts 0) (a : World.ArgsD at-x.signature κs) (r : World.ResD at-x.signature κs)
-    (s : Clauses.AtExit (Kinds.endedOf 0 at-x-kinds.ps at-x-kinds.r) κs) → at-x-reads.Learnt κs a r s → r ≡ at-point 2 8 (a .0)
-at-x-tied κs a r s l = l
+pub once-tied : (κs : Lifetimes.Lfts 0) (a : World.ArgsD once.signature κs) (r : World.ResD once.signature κs)
+    (s : Clauses.AtExit (Kinds.endedOf 0 once-kinds.ps once-kinds.r) κs) → once-reads.Learnt κs a r s
+    → r ≡ byte-of (a .0) 0
+once-tied κs a r s l = l
 
-pub at-x-asks : (κs : Lifetimes.Lfts 0) (a : World.ArgsD at-x.signature κs) → at-x-reads.Asked κs a
-at-x-asks κs a = tt
+pub once-asks : (κs : Lifetimes.Lfts 0) (a : World.ArgsD once.signature κs) → once-reads.Asked κs a
+once-asks κs a = tt
 
-pub at-x-squared-tied : (κs : Lifetimes.Lfts 0) (a : World.ArgsD at-x-squared.signature κs) (r : World.ResD at-x-squared.signature κs)
-    (s : Clauses.AtExit (Kinds.endedOf 0 at-x-squared-kinds.ps at-x-squared-kinds.r) κs) → at-x-squared-reads.Learnt κs a r s → r ≡ at-point 4 8 (a .0)
-at-x-squared-tied κs a r s l = l
+pub squared-tied : (κs : Lifetimes.Lfts 0) (a : World.ArgsD squared.signature κs) (r : World.ResD squared.signature κs)
+    (s : Clauses.AtExit (Kinds.endedOf 0 squared-kinds.ps squared-kinds.r) κs) → squared-reads.Learnt κs a r s
+    → r ≡ byte-of (a .0) 4
+squared-tied κs a r s l = l
 
-pub at-x-squared-asks : (κs : Lifetimes.Lfts 0) (a : World.ArgsD at-x-squared.signature κs) → at-x-squared-reads.Asked κs a
-at-x-squared-asks κs a = tt
+pub squared-asks : (κs : Lifetimes.Lfts 0) (a : World.ArgsD squared.signature κs) → squared-reads.Asked κs a
+squared-asks κs a = tt
+
+pub both-tied : (κs : Lifetimes.Lfts 0) (a : World.ArgsD both.signature κs) (r : World.ResD both.signature κs)
+    (s : Clauses.AtExit (Kinds.endedOf 0 both-kinds.ps both-kinds.r) κs) → both-reads.Learnt κs a r s
+    → r ≡ paired (a .0 .once) (a .0 .squared)
+both-tied κs a r s l = l
+
+pub both-asks : (κs : Lifetimes.Lfts 0) (a : World.ArgsD both.signature κs) → both-reads.Asked κs a
+both-asks κs a = tt
+
+pub is-zero-tied : (κs : Lifetimes.Lfts 0) (a : World.ArgsD is-zero.signature κs) (r : World.ResD is-zero.signature κs)
+    (s : Clauses.AtExit (Kinds.endedOf 0 is-zero-kinds.ps is-zero-kinds.r) κs) → is-zero-reads.Learnt κs a r s
+    → r ≡ all-zero (a .0)
+is-zero-tied κs a r s l = l
+
+pub is-zero-asks : (κs : Lifetimes.Lfts 0) (a : World.ArgsD is-zero.signature κs) → is-zero-reads.Asked κs a
+is-zero-asks κs a = tt
 
 pub rows-tied : (κs : Lifetimes.Lfts 0) (a : World.ArgsD rows.signature κs) (r : World.ResD rows.signature κs)
-    (s : Clauses.AtExit (Kinds.endedOf 0 rows-kinds.ps rows-kinds.r) κs) → rows-reads.Learnt κs a r s → r ≡ rows-of (a .0)
+    (s : Clauses.AtExit (Kinds.endedOf 0 rows-kinds.ps rows-kinds.r) κs) → rows-reads.Learnt κs a r s
+    → r ≡ rows-of (a .0)
 rows-tied κs a r s l = l
 
 pub rows-asks : (κs : Lifetimes.Lfts 0) (a : World.ArgsD rows.signature κs) → rows-reads.Asked κs a
 rows-asks κs a = tt
 
-pub is-zero-tied : (κs : Lifetimes.Lfts 0) (a : World.ArgsD is-zero.signature κs) (r : World.ResD is-zero.signature κs)
-    (s : Clauses.AtExit (Kinds.endedOf 0 is-zero-kinds.ps is-zero-kinds.r) κs) → is-zero-reads.Learnt κs a r s → r ≡ all-zero (a .0)
-is-zero-tied κs a r s l = l
+pub on-card-tied : (κs : Lifetimes.Lfts 0) (a : World.ArgsD on-card.signature κs) (r : World.ResD on-card.signature κs)
+    (s : Clauses.AtExit (Kinds.endedOf 0 on-card-kinds.ps on-card-kinds.r) κs) → on-card-reads.Learnt κs a r s
+    → r ≡ at-both (gathered (a .0) (spread built-in) (a .1 .0))
+on-card-tied κs a r s l = l
 
-pub is-zero-asks : (κs : Lifetimes.Lfts 0) (a : World.ArgsD is-zero.signature κs) → is-zero-reads.Asked κs a
-is-zero-asks κs a = tt
+pub on-card-asks : (κs : Lifetimes.Lfts 0) (a : World.ArgsD on-card.signature κs) → on-card-reads.Asked κs a
+on-card-asks κs a = tt
+
+pub first-card-tied : (κs : Lifetimes.Lfts 0) (a : World.ArgsD first-card.signature κs) (r : World.ResD first-card.signature κs)
+    (s : Clauses.AtExit (Kinds.endedOf 0 first-card-kinds.ps first-card-kinds.r) κs) → first-card-reads.Learnt κs a r s
+    → r ≡ taken (a .0) 0
+first-card-tied κs a r s l = l
+
+pub first-card-asks : (κs : Lifetimes.Lfts 0) (a : World.ArgsD first-card.signature κs) → first-card-reads.Asked κs a
+first-card-asks κs a = tt
+
+pub next-card-tied : (κs : Lifetimes.Lfts 0) (a : World.ArgsD next-card.signature κs) (r : World.ResD next-card.signature κs)
+    (s : Clauses.AtExit (Kinds.endedOf 0 next-card-kinds.ps next-card-kinds.r) κs) → next-card-reads.Learnt κs a r s
+    → r ≡ next (a .0)
+next-card-tied κs a r s l = l
+
+pub next-card-asks : (κs : Lifetimes.Lfts 0) (a : World.ArgsD next-card.signature κs) → next-card-reads.Asked κs a
+next-card-asks κs a = tt
+
+pub four-left-tied : (κs : Lifetimes.Lfts 1) (a : World.ArgsD four-left.signature κs) (r : World.ResD four-left.signature κs)
+    (s : Clauses.AtExit (Kinds.endedOf 1 four-left-kinds.ps four-left-kinds.r) κs) → four-left-reads.Learnt κs a r s
+    → FourLeft (now (a .0)) r (now (s .0))
+four-left-tied κs a r s l = l
+
+pub four-left-asks : (κs : Lifetimes.Lfts 1) (a : World.ArgsD four-left.signature κs) → four-left-reads.Asked κs a
+four-left-asks κs a = tt

@@ -4,16 +4,18 @@
 //
 // The label sums take no product a byte. A label is kept as a word with one of its eight binary digits in each byte, so that byte times
 // word, summed over the positions, gathers in byte k the bytes whose label has digit k. A label sum is then that word's eight bytes as a
-// polynomial, at x for the labels and at x squared for their squares.
+// polynomial, at x for the labels and at x squared for their squares; the two are worked out together, as a pair of bytes 32 digits apart.
+//
+// What holds for the built-in labels alone is in built_in.rt.
 ghost use mathlib.Core.Path.{_≡_};
 ghost use Prim.Native.Nat.{ℕ, _+_, _*_, _/_, _%_, _<_, _≤_, _^_};
-ghost use lib.ListN.{length, getD};
+ghost use lib.ListN.{length};
 ghost use Rattle.field.specs.Field.{sum};
 ghost use Rattle.code.specs.Block.{byte, position};
-ghost use Rattle.code.specs.Labels.{built-in};
-ghost use Rattle.sums.specs.Words.{byte-of, spread, gathered, at-point, reduced};
-ghost use Rattle.sums.specs.Sums.{rows-of, all-zero, BlockWord, BlockSums};
+ghost use Rattle.sums.specs.Words.{byte-of, paired, at-both, reduced};
+ghost use Rattle.sums.specs.Sums.{rows-of, no-sums, all-zero, chip-sum, BlockSums, RecordSums};
 
+pub mod built_in;
 mod words;
 
 // The row of chip i in byte i of `low`, of chip 8 in `high`; the sum of label times byte, and of label squared times byte.
@@ -30,85 +32,66 @@ fn wide(x: u8) -> u64
     x as u64
 }
 
-// ---- the gathered word
-
-// Nine bytes from a place on, each times its word of card j, summed: byte k is the sum of the bytes whose label has digit k.
-fn gather_card(bytes: &[u8], at: usize, j: u8) -> u64
-    requires { ⌜ at + 9 ≤ length (now bytes) ⌝ }
-    ensures { λ u. ⌜ u ≡ gathered (now (bytes .entry)) at (spread built-in) j ⌝ }
+// The byte of a word that begins at digit k.
+fn part(u: u64, k: u64) -> u8
+    requires { ⌜ k < 64 ⌝ }
+    ensures { λ r. ⌜ r ≡ u / 2 ^ k % 2 ^ 8 ⌝ }
 {
-    let own = words::card_words(j);
-    let mut u: u64 = 0;
-    let mut i: usize = 0;
-    while i < 9 {
-        u = (wide(bytes[at + i]) * own[i]) ^ u;
-        i = i + 1;
-    }
-    u
+    ((u >> k) & 0xff) as u8
 }
 
-// The rows, each times its word of card j, summed.
-pub fn card_word(rows: [u8; 9], j: u8) -> u64
-    ensures { λ u. ⌜ u ≡ gathered rows 0 (spread built-in) j ⌝ }
-{
-    gather_card(&rows, 0, j)
-}
-
-// The five cards' together. Each card is a call of its own, so that its words are constants there.
-fn gather_cards(b: &[u8]) -> u64
-    requires { ⌜ length (now b) ≡ 45 ⌝ }
-    ensures { λ u. ⌜ u ≡ sum 45 (λ p. byte (now (b .entry)) p * getD (spread built-in) p 0) ⌝ }
-{
-    gather_card(b, 0, 0)
-        ^ gather_card(b, 9, 1)
-        ^ gather_card(b, 18, 2)
-        ^ gather_card(b, 27, 3)
-        ^ gather_card(b, 36, 4)
-}
-
-// The word that both label sums of 45 bytes come from; of any other length 0.
-pub fn gather(b: &[u8]) -> u64
-    ensures { λ u. ⌜ BlockWord (now (b .entry)) u (now (b .exit)) ⌝ }
-{
-    if b.len() != 45 {
-        return 0;
-    }
-    gather_cards(b)
-}
-
-// The remainder of a polynomial of degree 21 at most: q times the modulus x ^ 8 + x ^ 4 + x ^ 3 + x ^ 2 + 1 is taken off. The modulus goes into
-// x ^ 8 this often: 1 + x ^ -4 + x ^ -5 + x ^ -6 + x ^ -10 + x ^ -13 + .., and q is that times the digits from 8 up.
-fn reduce(v: u64) -> u8
-    requires { ⌜ v < 2 ^ 22 ⌝ }
+// ---- two values, 32 digits apart
+// Two polynomials of degree 21 at most, 32 digits apart, each by the modulus x ^ 8 + x ^ 4 + x ^ 3 + x ^ 2 + 1: it goes into x ^ 8
+// 1 + x ^ -4 + x ^ -5 + x ^ -6 + x ^ -10 + x ^ -13 + .. times. Digits 22 to 31 of each are not looked at.
+pub fn reduce_pair(v: u64) -> u64
     ensures { λ r. ⌜ r ≡ reduced v ⌝ }
 {
-    let h = v >> 8;
-    let q = h ^ (h >> 4) ^ (h >> 5) ^ (h >> 6) ^ (h >> 10) ^ (h >> 13);
-    ((v ^ q ^ (q << 2) ^ (q << 3) ^ (q << 4)) & 0xff) as u8
+    let h = (v >> 8) & 0x00003fff00003fff;
+    let a = (h ^ (h >> 3)) >> 4;
+    let b = (h ^ a) >> 1;
+    let c = (h ^ b) >> 1;
+    let q = (h ^ ((h ^ c) >> 4)) & 0x000000ff000000ff;
+    let d = (q ^ (q << 1)) << 1;
+    (v ^ q ^ ((q ^ d) << 2)) & 0x000000ff000000ff
 }
 
-// The word's bytes as a polynomial, at x: neighbours are added, the upper one shifted by 1, then pairs by 2, then fours by 4.
-pub fn at_x(u: u64) -> u8
-    ensures { λ r. ⌜ r ≡ at-point 2 8 u ⌝ }
+// The word's bytes as a polynomial, at x in digits 0 to 31 and at x squared from digit 32 on. Neighbours are added, the upper one shifted
+// by 1, then pairs by 2, then fours by 4; at x squared twice as far.
+fn pair(u: u64) -> u64
+    ensures { λ r. ⌜ r ≡ at-both u ⌝ }
 {
-    let a = (u & 0x00ff00ff00ff00ff) ^ ((u >> 7) & 0x01fe01fe01fe01fe);
-    let b = (a & 0x0000ffff0000ffff) ^ ((a >> 14) & 0x0003fffc0003fffc);
-    let c = (b & 0xffff) ^ ((b >> 28) & 0xffff0);
-    reduce(c)
+    let even = u & 0x00ff00ff00ff00ff;
+    let odd = (u >> 8) & 0x00ff00ff00ff00ff;
+    let one = even ^ (odd << 1);
+    let two = even ^ (odd << 2);
+    let pairs = (one ^ (one >> 14)) & 0x0000ffff0000ffff;
+    let fours = (two ^ (two >> 12)) & 0x0000ffff0000ffff;
+    let v = ((pairs ^ (pairs >> 28)) & 0xffffffff) ^ ((fours ^ (fours >> 24)) << 32);
+    reduce_pair(v)
 }
 
-// The same at x squared, with the shifts twice as far.
-pub fn at_x_squared(u: u64) -> u8
-    ensures { λ r. ⌜ r ≡ at-point 4 8 u ⌝ }
+// The first of a pair of label sums: that of the labels.
+pub fn once(v: u64) -> u8
+    ensures { λ r. ⌜ r ≡ byte-of v 0 ⌝ }
 {
-    let a = (u & 0x00ff00ff00ff00ff) ^ ((u >> 6) & 0x03fc03fc03fc03fc);
-    let b = (a & 0x0000ffff0000ffff) ^ ((a >> 12) & 0x000ffff0000ffff0);
-    let c = (b & 0xffffff) ^ ((b >> 24) & 0xffffff00);
-    reduce(c)
+    part(v, 0)
 }
 
-// ---- the rows
+// The second: that of their squares.
+pub fn squared(v: u64) -> u8
+    ensures { λ r. ⌜ r ≡ byte-of v 4 ⌝ }
+{
+    part(v, 32)
+}
 
+// The two label sums as such a pair.
+pub fn both(s: Sums) -> u64
+    ensures { λ r. ⌜ r ≡ paired (s .once) (s .squared) ⌝ }
+{
+    wide(s.once) ^ (wide(s.squared) << 32)
+}
+
+// ---- words
 // The byte i places after `at`, shifted up by k digits.
 fn place(b: &[u8], at: usize, i: usize, k: u64) -> u64
     requires { ⌜ (at + i < length (now b)) × (k < 64) ⌝ }
@@ -117,19 +100,19 @@ fn place(b: &[u8], at: usize, i: usize, k: u64) -> u64
     wide(b[at + i]) << k
 }
 
-// Eight bytes from a place on as a word, the first lowest.
+// Eight bytes from a place on as a word, the first lowest. Joined by "or" they become one load.
 fn word(b: &[u8], at: usize) -> u64
     requires { ⌜ at + 8 ≤ length (now b) ⌝ }
     ensures { λ r. ⌜ ((i : ℕ) → i < 8 → byte-of r i ≡ byte (now (b .entry)) (at + i)) ⌝ }
 {
     place(b, at, 0, 0)
-        ^ place(b, at, 1, 8)
-        ^ place(b, at, 2, 16)
-        ^ place(b, at, 3, 24)
-        ^ place(b, at, 4, 32)
-        ^ place(b, at, 5, 40)
-        ^ place(b, at, 6, 48)
-        ^ place(b, at, 7, 56)
+        | place(b, at, 1, 8)
+        | place(b, at, 2, 16)
+        | place(b, at, 3, 24)
+        | place(b, at, 4, 32)
+        | place(b, at, 5, 40)
+        | place(b, at, 6, 48)
+        | place(b, at, 7, 56)
 }
 
 // The rows of chips 0 to 7.
@@ -148,30 +131,77 @@ fn last_row(b: &[u8]) -> u8
     b[8] ^ b[17] ^ b[26] ^ b[35] ^ b[44]
 }
 
-// ---- the sums
+// ---- a record's words
+// Its seven bytes of card 3, and 0 for the eighth.
+fn third_card(rec: &[u8]) -> u64
+    requires { ⌜ length (now rec) ≡ 34 ⌝ }
+    ensures { λ r. ⌜ ((i : ℕ) → i < 8 → byte-of r i ≡ byte (now (rec .entry)) (27 + i)) ⌝ }
+{
+    word(rec, 26) >> 8
+}
 
-// The sums of 45 bytes under the built-in labels; of any other length all zeros.
+// Its sums of chips 0 to 7.
+fn low_sums(rec: &[u8]) -> u64
+    requires { ⌜ length (now rec) ≡ 34 ⌝ }
+    ensures { λ r. ⌜ ((i : ℕ) → i < 8 → byte-of r i ≡ chip-sum (now (rec .entry)) i) ⌝ }
+{
+    word(rec, 0) ^ word(rec, 9) ^ word(rec, 18) ^ third_card(rec)
+}
+
+// Its sums of chips 1 to 8.
+fn high_sums(rec: &[u8]) -> u64
+    requires { ⌜ length (now rec) ≡ 34 ⌝ }
+    ensures { λ r. ⌜ ((i : ℕ) → i < 8 → byte-of r i ≡ chip-sum (now (rec .entry)) (1 + i)) ⌝ }
+{
+    word(rec, 1) ^ word(rec, 10) ^ word(rec, 19) ^ (third_card(rec) >> 8)
+}
+
+// ---- the sums
+fn no_sums() -> Sums
+    ensures { λ r. ⌜ r ≡ no-sums ⌝ }
+{
+    Sums {
+        low: 0,
+        high: 0,
+        once: 0,
+        squared: 0,
+    }
+}
+
+// The sums of 45 bytes under the built-in labels; of any other length all zeros. The pair is made once, and both label sums taken from it.
 pub fn of_block(block: &[u8]) -> Sums
     ensures { λ r. ⌜ BlockSums (now (block .entry)) r (now (block .exit)) ⌝ }
 {
     if block.len() != 45 {
-        return Sums {
-            low: 0,
-            high: 0,
-            once: 0,
-            squared: 0,
-        };
+        return no_sums();
     }
-    let u = gather_cards(block);
+    let v = pair(built_in::gather_at(block, 0));
     let low = low_rows(block);
     let high = last_row(block);
-    let once = at_x(u);
-    let squared = at_x_squared(u);
     Sums {
         low,
         high,
-        once,
-        squared,
+        once: once(v),
+        squared: squared(v),
+    }
+}
+
+// The sums of a record of 34 bytes under the built-in labels: its nine chip sums, and the label sums of the block that has them as card 4
+// and zeros for bytes 34 and 35. Of any other length all zeros.
+pub fn of_record(rec: &[u8]) -> Sums
+    ensures { λ r. ⌜ RecordSums (now (rec .entry)) r (now (rec .exit)) ⌝ }
+{
+    if rec.len() != 34 {
+        return no_sums();
+    }
+    let v = pair(built_in::gather_record(rec));
+    let low = low_sums(rec);
+    let high = part(high_sums(rec), 56);
+    Sums {
+        low,
+        high,
+        once: once(v),
+        squared: squared(v),
     }
 }
 
@@ -180,14 +210,6 @@ pub fn is_zero(s: Sums) -> bool
     ensures { λ r. ⌜ r ≡ all-zero s ⌝ }
 {
     (s.low | wide(s.high) | wide(s.once) | wide(s.squared)) == 0
-}
-
-// The byte of a word that begins at digit k.
-fn part(u: u64, k: u64) -> u8
-    requires { ⌜ k < 64 ⌝ }
-    ensures { λ r. ⌜ r ≡ u / 2 ^ k % 2 ^ 8 ⌝ }
-{
-    ((u >> k) & 0xff) as u8
 }
 
 // The nine rows, by chips.

@@ -1,27 +1,23 @@
 -- What is proposed, in plain words and as the code finds it.
 --
---   none-counted, one-counted, passed-over, all-counted   the loop that counts how often each position stands there; count-le: no count is
---                                       above the number passed
---   due-few, due-marked, due-rest       the tests of a position, one after the other
+--   due-few, due-often                  the test of a position, by how often it stands there
 --   due-is, is-due                      a position passes exactly where it may be proposed
---   lowest-start, -more, -found, -end   the loop that seeks the lowest
+--   Reached                             where the loop that seeks the lowest is: lowest-next, -more, -found, -end
 --   refused-is, chip-is, nothing-is     the three answers
 --   proposed-exactly                    THE STATEMENT of specs/Plain.antt
 --   window-proposal                     a run's window proposes what the last 64 of the run do
 use mathlib.Core.Logic.{_≢_, _⊎_, inl, inr}
 use mathlib.Core.Path.{_≡_, refl, sym, ap, _∙_, subst}
 use mathlib.Core.Bool.{Bool, true, false, _&&_, not}
-use mathlib.Core.List.{List, [], _∷_, _++_}
+use mathlib.Core.List.{List}
 use Prim.Native.Nat.{ℕ, zero, suc, _+_, _-_, _/_, _<_, _≤_}
-use native.Mathlib.Numerals.{add-one}
 use native.Mathlib.Omega.{arith}
 use lib.Dec.{eqb, leb}
-use lib.ListN.{length, take, getD, set, replicate, length-set, getD-replicate}
-use lib.Seq.{take-suc, take-all, length-take-le, getD-set-same, getD-set-other}
+use lib.ListN.{length, replicate}
 use borrow.Author.Tests.{eqb-false, eq-eqb, ne-eqb, le-leb, lt-leb, leb-true, lt-ltb, le-ltb, not-true}
 use Rattle.base.specs.Base.{if, bit, least}
 use Rattle.base.proofs.Tests.{same, lt-or-le, and-true}
-use Rattle.base.proofs.Tally.{clash, one-le}
+use Rattle.base.proofs.Tally.{clash}
 use Rattle.base.proofs.Lists.{in-is-in, is-in-in}
 use Rattle.base.proofs.Those.{Least, least-is, least-one, least-ext}
 use Rattle.marks.specs.Marks.{marked-chips, LawfulMarks, is-marked, marks-cause}
@@ -31,70 +27,22 @@ use Rattle.marks.specs.declared.CardMark.the-variants.{None, Card}
 use Rattle.marks.specs.declared.Marks.{Marks}
 use Rattle.marks.proofs.Laws.{lawful-cause, cause-lawful}
 use Rattle.window.specs.Window.{last-64, window-of, times, due-by, due, proposed, proposal}
-use Rattle.window.specs.Count.{Counts}
+use Rattle.window.specs.Count.{Counts, NextOften}
 use Rattle.window.specs.Plain.{Due, proposal-number, ProposedExactly}
 use Rattle.window.specs.declared.Proposal.the-variants.{Chip, Nothing, Refused}
+use Rattle.window.proofs.Counted.{times-append}
 
--- ---- counted by a loop: those before i
-times-append : (p : ℕ) (l k : List ℕ) → times p (l ++ k) ≡ times p l + times p k
-times-append p [] k = omega arith
-times-append p (a ∷ l) k = omega (arith, times-append p l k)
+-- ---- the test of a position
+abbrev unmarked : Marks → ℕ → Bool
+unmarked m p = not (is-marked m p) && not (card-is (m .card) (p / 9))
 
-pub none-counted : (w c : List ℕ) → c ≡ replicate 45 0 → Counts (take 0 w) c
-none-counted w c e = rw e (record { long = refl; each = λ p h. getD-replicate 45 p 0 0 h })
-
--- no position stands among i more than i times
-times-le : (p : ℕ) (l : List ℕ) → times p l ≤ length l
-times-le p [] = omega arith
-times-le p (a ∷ l) = omega (arith, one-le (eqb a p), times-le p l)
-
-module _ (w c : List ℕ) (i : ℕ) (h : i < length w) (k : Counts (take i w) c) where
-  pub count-le : (p : ℕ) → p < 45 → getD c p 0 ≤ i
-  count-le p l = omega (arith, k .each p l, times-le p (take i w), length-take-le i w (omega arith))
-
-  module _ (a : ℕ) (e : a ≡ getD w i 0) where
-    more : (p : ℕ) → times p (take (i + 1) w) ≡ times p (take i w) + bit (eqb a p)
-    more p =
-        ap (times p) (ap (λ (j : ℕ). take j w) (add-one i) ∙ take-suc w i 0 h ∙ ap (λ (x : ℕ). take i w ++ (x ∷ [])) (sym e))
-        ∙ times-append p (take i w) (a ∷ []) ∙ omega arith
-
-    pub one-counted : a < 45 → Counts (take (i + 1) w) (set c a (getD c a 0 + 1))
-    one-counted l = record { long = length-set c a _ ∙ k .long; each = λ p b. at p b (same p a) }
-      where
-        at : (p : ℕ) → p < 45 → (p ≡ a) ⊎ (p ≢ a) → getD (set c a (getD c a 0 + 1)) p 0 ≡ times p (take (i + 1) w)
-        at p b (inl z) =
-            let here : bit (eqb a p) ≡ 1 = ap bit (eq-eqb a p (sym z)) in
-            let y : times a (take i w) ≡ times p (take i w) = ap (λ (j : ℕ). times j (take i w)) (sym z) in
-            ap (λ (j : ℕ). getD (set c a (getD c a 0 + 1)) j 0) z ∙ getD-set-same c a _ 0 (omega (arith, k .long))
-            ∙ omega (arith, k .each a l, more p, here, y)
-        at p b (inr z) =
-            let here : bit (eqb a p) ≡ 0 = ap bit (ne-eqb a p (λ y. z (sym y))) in
-            getD-set-other c a p _ 0 z ∙ omega (arith, k .each p b, more p, here)
-
-    -- a byte that is no position
-    pub passed-over : 45 ≤ a → Counts (take (i + 1) w) c
-    passed-over l = record {
-      long = k .long;
-      each = λ p b.
-          let here : bit (eqb a p) ≡ 0 = ap bit (ne-eqb a p (λ y. omega arith)) in
-          omega (arith, k .each p b, more p, here);
-    }
-
-pub all-counted : (w c : List ℕ) (i : ℕ) → length w ≤ i → Counts (take i w) c → Counts w c
-all-counted w c i h k = subst (λ (l : List ℕ). Counts l c) (take-all i w h) k
-
--- ---- the tests of a position
-pub due-few : (n : ℕ) (m : Marks) (p : ℕ) → n < 4 → false ≡ due-by n m p
+due-few : (n : ℕ) (m : Marks) (p : ℕ) → n < 4 → false ≡ due-by n m p
 unfolding due-by
-due-few n m p h = sym (ap (λ (t : Bool). t && (not (is-marked m p) && not (card-is (m .card) (p / 9)))) (lt-leb 4 n h))
+due-few n m p h = sym (ap (λ (t : Bool). t && unmarked m p) (lt-leb 4 n h))
 
-pub due-marked : (n : ℕ) (m : Marks) (p : ℕ) → 4 ≤ n → is-marked m p ≡ true → false ≡ due-by n m p
+due-often : (n : ℕ) (m : Marks) (p : ℕ) → 4 ≤ n → unmarked m p ≡ due-by n m p
 unfolding due-by
-due-marked n m p h e = sym (rw (le-leb 4 n h, e) refl)
-
-pub due-rest : (n : ℕ) (m : Marks) (p : ℕ) → 4 ≤ n → is-marked m p ≡ false → not (card-is (m .card) (p / 9)) ≡ due-by n m p
-unfolding due-by
-due-rest n m p h e = sym (rw (le-leb 4 n h, e) refl)
+due-often n m p h = sym (ap (λ (t : Bool). t && unmarked m p) (le-leb 4 n h))
 
 module _ (l : List ℕ) (m : Marks) (p : ℕ) where
   off-card : (c : CardMark) → card-is c (p / 9) ≡ false → c ≢ Card (p / 9)
@@ -127,21 +75,43 @@ module _ (l : List ℕ) (m : Marks) (p : ℕ) where
 
 -- ---- the lowest, by a loop: none below p passes
 module _ (l : List ℕ) (m : Marks) where
-  abbrev pub NoneBelow : ℕ → Type 0
+  abbrev NoneBelow : ℕ → Type 0
   NoneBelow p = (i : ℕ) → i < p → due l m i ≡ false
 
-  pub lowest-more : (p : ℕ) (t : Bool) → t ≡ due l m p → t ≡ false → NoneBelow p → NoneBelow (p + 1)
-  lowest-more p t e f h i g = pick (same i p)
+  pub record Reached (p : ℕ) : Type 0 where
+    pub most : p ≤ 45
+    pub often : p < 45 → 4 ≤ times p l
+    pub below : NoneBelow p
+
+  -- those that are passed over stand there less than four times
+  pub lowest-next : (c : List ℕ) (p q : ℕ) → Counts l c → NextOften c p q → NoneBelow p → Reached q
+  lowest-next c p q k e h = record {
+    most = e .most;
+    often = λ b. omega (arith, k .each q (omega arith), e .often b);
+    below = λ i g. pick i g (lt-or-le i p);
+  }
     where
-      pick : (i ≡ p) ⊎ (i ≢ p) → due l m i ≡ false
-      pick (inl q) = ap (due l m) q ∙ sym e ∙ f
-      pick (inr q) = h i (omega arith)
+      pick : (i : ℕ) → i < q → (i < p) ⊎ (p ≤ i) → due l m i ≡ false
+      pick i g (inl b) = h i b
+      pick i g (inr b) = sym (due-few (times i l) m i (omega (arith, k .each i (omega (arith, e .most)), e .few i b g)))
 
-  pub lowest-found : (p : ℕ) (t : Bool) → p < 45 → t ≡ due l m p → t ≡ true → NoneBelow p → p ≡ least 45 (due l m)
-  lowest-found p t b e f h = least-one 45 (due l m) p (record { most = omega arith; passes = λ q. sym e ∙ f; below = h })
+  module _ (p : ℕ) (b : p < 45) (r : Reached p) (t : Bool) (e : t ≡ unmarked m p) where
+    is : t ≡ due l m p
+    is = e ∙ due-often (times p l) m p (r .often b)
 
-  pub lowest-end : (p : ℕ) → 45 ≤ p → NoneBelow p → 45 ≡ least 45 (due l m)
-  lowest-end p b h = least-one 45 (due l m) 45 (record { most = omega arith; passes = λ q. absurd (omega arith); below = λ i g. h i (omega arith) })
+    pub lowest-more : t ≡ false → NoneBelow (p + 1)
+    lowest-more f i g = pick (same i p)
+      where
+        pick : (i ≡ p) ⊎ (i ≢ p) → due l m i ≡ false
+        pick (inl q) = ap (due l m) q ∙ sym is ∙ f
+        pick (inr q) = r .below i (omega arith)
+
+    pub lowest-found : t ≡ true → p ≡ least 45 (due l m)
+    lowest-found f = least-one 45 (due l m) p (record { most = r .most; passes = λ q. sym is ∙ f; below = r .below })
+
+  pub lowest-end : (p : ℕ) → 45 ≤ p → Reached p → 45 ≡ least 45 (due l m)
+  lowest-end p b r =
+      least-one 45 (due l m) 45 (record { most = omega arith; passes = λ q. absurd (omega arith); below = λ i g. r .below i (omega arith) })
 
   -- ---- the three answers
   pub refused-is : (n : ℕ) → n ≡ marks-cause m → n ≢ 0 → Refused n ≡ proposal l m

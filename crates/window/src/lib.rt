@@ -3,15 +3,17 @@
 // The oldest position comes first, and 255 stands where there is none yet, so that any 64 bytes are a window and nothing has to be kept
 // in step with a count.
 ghost use mathlib.Core.Path.{_≡_};
+ghost use mathlib.Core.Bool.{_&&_, not};
 ghost use mathlib.Core.List.{_++_};
 ghost use Prim.Native.Nat.{_+_, _/_, _≤_, min};
 ghost use lib.ListN.{length, take, drop, replicate};
 ghost use Rattle.base.specs.Base.{least};
 ghost use Rattle.answer.specs.Answer.{outcome-answer};
+ghost use Rattle.marks.specs.Marks.{is-marked};
 ghost use Rattle.marks.specs.Mark.{card-is};
 ghost use Rattle.change.specs.Change.{positions};
-ghost use Rattle.window.specs.Window.{fresh-window, added, due-by, due, ClearWindowDone, ProposeDone};
-ghost use Rattle.window.specs.Count.{Counts};
+ghost use Rattle.window.specs.Window.{fresh-window, added, due, ClearWindowDone, ProposeDone};
+ghost use Rattle.window.specs.Count.{Counts, NextOften};
 use answer::Outcome;
 use change::Positions;
 use marks::CardMark;
@@ -103,19 +105,32 @@ fn to_usize(x: u8) -> usize
     x as usize
 }
 
-// How often each position stands there, into 45 zeros.
-fn count(w: &[u8], c: &mut [u8])
-    requires { ⌜ (length (now w) ≡ 64) × (now c ≡ replicate 45 0) ⌝ }
-    ensures { λ _. ⌜ Counts (now (w .entry)) (now (c .exit)) × (now (w .exit) ≡ now (w .entry)) ⌝ }
+// How often each byte stands there, into 256 zeros: there is a place for every byte, so that none has to be tested for being a position.
+fn count(w: &[u8], c: &mut [u8; 256])
+    requires { ⌜ (length (now w) ≡ 64) × (now c ≡ replicate 256 0) ⌝ }
+    ensures { λ _. ⌜ Counts (now (w .entry)) (now (c .exit)) ⌝ }
 {
     let mut i: usize = 0;
     while i < w.len() {
         let p = to_usize(w[i]);
-        if p < c.len() {
-            c[p] = c[p] + 1;
-        }
+        c[p] = c[p] + 1;
         i = i + 1;
     }
+}
+
+// The first position from p on that is counted four times or more; 45 where there is none.
+fn next_often(c: &[u8; 256], p: u8) -> u8
+    ensures { λ q. ⌜ NextOften (now (c .entry)) p q ⌝ }
+{
+    let mut q = p;
+    while q < 45 {
+        let i = q as usize;
+        if 4 <= c[i] {
+            return q;
+        }
+        q = q + 1;
+    }
+    45
 }
 
 fn is_on(card: CardMark, p: u8) -> bool
@@ -127,13 +142,10 @@ fn is_on(card: CardMark, p: u8) -> bool
     }
 }
 
-// Whether a position that stands there n times does so four times or more, and neither it nor its card is marked.
-fn is_due(n: u8, m: Marks, p: u8) -> bool
-    ensures { λ t. ⌜ t ≡ due-by n m p ⌝ }
+// Whether neither a position nor its card is marked.
+fn is_unmarked(m: Marks, p: u8) -> bool
+    ensures { λ t. ⌜ t ≡ not (is-marked m p) && not (card-is (m .card) (p / 9)) ⌝ }
 {
-    if n < 4 {
-        return false;
-    }
     if marks::is_marked(m, p) {
         return false;
     }
@@ -141,20 +153,20 @@ fn is_due(n: u8, m: Marks, p: u8) -> bool
     !is_on(card, p)
 }
 
-// The lowest such position; 45 where there is none.
+// The lowest position that stands there four times or more and is unmarked; 45 where there is none. The marks are looked at only where
+// a position stands there often enough.
 fn lowest(w: &[u8], m: Marks) -> u8
     requires { ⌜ length (now w) ≡ 64 ⌝ }
     ensures { λ p. ⌜ (p ≡ least 45 (due (now (w .entry)) m)) × (now (w .exit) ≡ now (w .entry)) ⌝ }
 {
-    let mut c = [0u8; 45];
+    let mut c = [0u8; 256];
     count(w, &mut c);
-    let mut p: u8 = 0;
+    let mut p = next_often(&c, 0);
     while p < 45 {
-        let i = p as usize;
-        if is_due(c[i], m, p) {
+        if is_unmarked(m, p) {
             return p;
         }
-        p = p + 1;
+        p = next_often(&c, p + 1);
     }
     45
 }

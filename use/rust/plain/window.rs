@@ -1,11 +1,10 @@
 //! Order 2's window: get and patrol, which add to it, and the proposal.
 
-use super::{blocks_of, read, Answer, Marks, BLOCK, CHIPS};
-use std::ops::Range;
+use super::{place, read, Answer, Marks, BLOCK, CHIPS};
 
 /// How many positions are held, and how often one stands among them where it is
 /// proposed.
-const HELD: usize = 64;
+pub const HELD: usize = 64;
 const ENOUGH: u8 = 4;
 
 /// The last 64 changed positions, oldest first; 255 before them where there are
@@ -28,15 +27,6 @@ pub fn add(window: &mut Window, block: &[u8], corrected: &[u8]) {
 
 fn is_changed(answer: Answer) -> bool {
     matches!(answer, Answer::Chips { .. } | Answer::Card { .. })
-}
-
-/// Where block k lies in a bank.  Err: 4 or 5.
-fn place(bank: &[u8], k: usize) -> Result<Range<usize>, u8> {
-    if k < blocks_of(bank)? {
-        Ok(BLOCK * k..BLOCK * (k + 1))
-    } else {
-        Err(5)
-    }
 }
 
 /// Reads block k into the output.

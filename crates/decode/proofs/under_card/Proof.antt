@@ -1,6 +1,6 @@
 -- The marked card's reduced sums, and one search: with the marked chips off the card, or, where there are none, beside the card alone.
 use mathlib.Core.Logic.{_≢_}
-use mathlib.Core.Path.{_≡_, sym, ap, subst}
+use mathlib.Core.Path.{_≡_, refl, sym, ap, _∙_, subst}
 use mathlib.Core.Bool.{false}
 use mathlib.Core.List.{List}
 use Prim.Native.Nat.{ℕ}
@@ -11,8 +11,9 @@ use Rattle.code.specs.Reach.{Beside}
 use Rattle.code.proofs.Few.{keep-beside}
 use Rattle.marks.specs.Marks.{chips-of, marked-chips}
 use Rattle.marks.specs.declared.CardMark.the-variants.{Card}
-use Rattle.sums.specs.Words.{spread}
+use Rattle.sums.specs.Words.{byte-of, spread, gathered}
 use Rattle.sums.specs.Sums.{rows-of}
+use Rattle.sums.proofs.Fold.{once-from, squared-from}
 use Rattle.marks.proofs.Laws.{few-chips}
 use Rattle.decode.specs.Equations.{fits-by, Solves, chips-off}
 use Rattle.decode.specs.Search.{SumsAt}
@@ -38,8 +39,10 @@ sums c =
     let g = x .before in
     let r = at-rows c in
     let s = r .before .before in
+    let u : ℕ = gathered (r .rows .result) (spread built-in) (s .args .j) in
     sums-by (s .args .labels .now) (s .pre .0) (s .args .s) (s .args .j) (s .pre .3) (spread built-in) (ap spread (sym (s .pre .1))) _ (r .rows .ensures)
-    (g .card-word .result) _ _ _ _ (g .card-word .ensures) (x .at-x .ensures) (y .at-x-squared .ensures) (a .add .ensures) (c .add2 .ensures)
+    u _ _ _ _ refl (x .once .ensures ∙ ap (λ (v : ℕ). byte-of v 0) (g .on-card .ensures) ∙ once-from u)
+    (y .squared .ensures ∙ ap (λ (v : ℕ). byte-of v 4) (g .on-card .ensures) ∙ squared-from u) (a .add .ensures) (c .add2 .ensures)
 
 -- ---- the marked chips off the card
 -- what is answered for them is the answer

@@ -1,4 +1,4 @@
--- All 45 bytes are written: 34 copied, two zeros, and nine chip sums.
+-- All 45 bytes are written: 34 copied, two zeros, and card 4.
 use mathlib.Core.Path.{refl}
 use lib.ListN.{length-set}
 use native.Mathlib.Omega.{arith}
@@ -27,7 +27,7 @@ returns c =
     let second = filled .before .before .before .before in
     let first = second .before .before .before .before in
     let s = first .before .before .before .before in
-    begun (s .args .rec .now) _ (first .copy .last .1 .0) (s .args .out .now) (second .copy2 .last .1 .0) (filled .fill .last .1 .0)
+    begun (s .args .rec .now) (s .args .card) _ (first .copy .last .1 .0) (s .args .out .now) (second .copy2 .last .1 .0) (filled .fill .last .1 .0)
     (s .pre .0) refl (s .pre .1) (first .copy .ensures) (second .copy2 .ensures) (filled .fill .ensures)
 
 pub begin-spec : {M : Type 1} → statement M

@@ -1,7 +1,7 @@
 -- Each byte is shifted to its own place of the word.
 use native.Mathlib.Omega.{arith}
 use Rattle.field.specs.Field.{_⊕_}
-use Rattle.sums.proofs.Cards.{word-is}
+use Rattle.sums.proofs.Cards.{word-or}
 use Rattle.sums.proofs.word.Statement.{statement}
 use Rattle.sums.proofs.word.Tie as tie
 
@@ -16,7 +16,7 @@ returns c =
     let w₁ = w₂ .before in
     let w₀ = w₁ .before in
     let known = w₀ .before in
-    word-is (known .before .args .b .now) (known .before .args .at) (λ p. omega (arith, known .shared-slice-known .given p)) _ _ _ _ _ _ _ _
+    word-or (known .before .args .b .now) (known .before .args .at) (λ p. omega (arith, known .shared-slice-known .given p)) _ _ _ _ _ _ _ _
     (w₀ .place .ensures) (w₁ .place2 .ensures) (w₂ .place3 .ensures) (w₃ .place4 .ensures)
     (w₄ .place5 .ensures) (w₅ .place6 .ensures) (w₆ .place7 .ensures) (c .place8 .ensures)
 
