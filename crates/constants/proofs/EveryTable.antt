@@ -21,8 +21,8 @@ use Rattle.field.proofs.Inverses.{in-table, in-table-zero, in-table-inverse}
 use Rattle.code.specs.Block.{byte}
 use Rattle.code.specs.Labels.{built-in}
 use Rattle.code.proofs.BuiltIn.{built-in-set}
-use Rattle.sums.specs.Words.{byte-of, spread, spread-of}
-use Rattle.sums.proofs.Points.{spread-at}
+use Rattle.pairs.specs.Words.{byte-of, spread, spread-of}
+use Rattle.pairs.proofs.Points.{spread-at}
 use Rattle.sheet.specs.ByTables.{logs-inverse}
 use Rattle.sheet.proofs.Lines.{line-by-line}
 use Rattle.sheet.proofs.ByTables.{logs-invert}

@@ -21,7 +21,7 @@ use Rattle.code.specs.Block.{byte}
 use Rattle.code.specs.Labels.{label, built-in}
 use Rattle.code.proofs.Blocks.{block-of-at}
 use Rattle.code.proofs.BuiltIn.{built-in-set}
-use Rattle.sums.specs.Words.{paired}
+use Rattle.pairs.specs.Words.{paired}
 use Rattle.store.specs.Factors as factors-of
 use Rattle.store.specs.Factors.{Factors}
 use Rattle.store.proofs.Solved.{built-in-factors}

@@ -12,7 +12,7 @@ use mathlib.Core.List.{List, [], _∷_}
 use Rattle.field.specs.Field.{_⊕_, _·_}
 use Rattle.code.specs.Block.{byte}
 use Rattle.code.specs.Labels.{label}
-use Rattle.sums.specs.Words.{paired}
+use Rattle.pairs.specs.Words.{paired}
 use Rattle.store.proofs.Worked.{FactorShifts}
 use Rattle.sheet.specs.ByTables.{logs-product, logs-inverse}
 

@@ -13,7 +13,7 @@ use Rattle.field.proofs.Constants.{InverseTable}
 use Rattle.code.specs.Block.{byte, position}
 use Rattle.code.specs.Labels.{label}
 use Rattle.code.proofs.Constants.{LabelTable}
-use Rattle.sums.specs.Words.{byte-of, spread-of}
+use Rattle.pairs.specs.Words.{byte-of, spread-of}
 use Rattle.sums.proofs.Constants.{WordTable}
 use Rattle.slip.specs.Limits.{limits-of}
 use Rattle.slip.proofs.Constants.{LimitTable}

@@ -25,11 +25,11 @@ use Rattle.code.specs.Labels.{built-in, LabelSet}
 use Rattle.code.specs.Reach.{keep, Reached}
 use Rattle.code.proofs.BuiltIn.{built-in-set}
 use Rattle.marks.specs.declared.CardMark.the-variants.{None}
-use Rattle.sums.specs.Words.{spread, gathered, at-point, paired}
+use Rattle.pairs.specs.Words.{spread, gathered, at-point, paired}
 use Rattle.sums.specs.Sums.{rows-of, taken}
 use Rattle.sums.specs.declared.Sums.{Sums}
-use Rattle.sums.proofs.Points.{at-point-below}
-use Rattle.sums.proofs.Fold.{paired-digits}
+use Rattle.pairs.proofs.Points.{at-point-below}
+use Rattle.pairs.proofs.Fold.{paired-digits}
 use Rattle.sums.proofs.Next.{next-taken, next-fixed}
 use Rattle.sums.proofs.Syndrome.{reduced-sums}
 use Rattle.change.specs.Change.{applied, nonzero-at, weight, WellFormed}

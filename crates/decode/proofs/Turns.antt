@@ -21,7 +21,7 @@ use Rattle.marks.specs.Marks.{marked-chips, LawfulMarks}
 use Rattle.marks.specs.declared.CardMark.the-variants.{None}
 use Rattle.marks.specs.declared.Marks.{Marks}
 use Rattle.marks.proofs.Laws.{chips-counted}
-use Rattle.sums.specs.Words.{spread, gathered, at-point}
+use Rattle.pairs.specs.Words.{spread, gathered, at-point}
 use Rattle.sums.specs.Sums.{rows-of, ReducedSums}
 use Rattle.sums.specs.declared.Sums.{Sums}
 use Rattle.change.specs.Change.{applied, weight}

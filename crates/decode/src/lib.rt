@@ -123,8 +123,8 @@ fn over_cards(labels: &[u8], s: sums::Sums, m: marks::Marks) -> Decoded
     let mut held_squared: u8 = 0;
     let mut own = sums::built_in::first_card(s);
     'cards: for j in 0u8..5 {
-        let once = field::add(s.once, sums::once(own));
-        let squared = field::add(s.squared, sums::squared(own));
+        let once = field::add(s.once, pairs::once(own));
+        let squared = field::add(s.squared, pairs::squared(own));
         own = sums::built_in::next_card(own);
         let w = chips::off_card(m, j);
         if equations::fits(labels, once, squared, j, w) {
@@ -207,8 +207,8 @@ fn under_card(labels: &[u8], s: sums::Sums, m: marks::Marks, j: u8) -> Decoded
 {
     let rows = sums::rows(s);
     let own = sums::built_in::on_card(rows, j);
-    let once = field::add(s.once, sums::once(own));
-    let squared = field::add(s.squared, sums::squared(own));
+    let once = field::add(s.once, pairs::once(own));
+    let squared = field::add(s.squared, pairs::squared(own));
     let w = chips::off_card(m, j);
     if w.count == 0 {
         return beside_card(labels, rows, once, squared, j);

@@ -11,10 +11,10 @@ use Rattle.field.proofs.Xor.{sums}
 use Rattle.field.proofs.Linear.{Additive}
 use Rattle.field.proofs.Gf256.{field}
 use Rattle.field.proofs.Ring.{add-mul}
-use Rattle.sums.specs.Words.{paired, reduced}
-use Rattle.sums.specs.Maps.{up}
-use Rattle.sums.proofs.Points.{agree}
-use Rattle.sums.proofs.Fold.{after, up-add, reduced-add, paired-add}
+use Rattle.pairs.specs.Words.{paired, reduced}
+use Rattle.pairs.specs.Shifts.{up}
+use Rattle.pairs.proofs.Points.{agree}
+use Rattle.pairs.proofs.Fold.{after, up-add, reduced-add, paired-add}
 
 unfoldable pub first : ℕ → ℕ
 first x = up 3 (x ⊕ up 32 x) ⊕ up 1 x ⊕ up 4 x ⊕ up 39 x

@@ -18,7 +18,7 @@ use Rattle.code.specs.Block.{byte}
 use Rattle.code.specs.Labels.{built-in, LabelSet}
 use Rattle.code.proofs.BuiltIn.{figures, in-figures, built-in-set}
 use Rattle.code.proofs.Blocks.{label-below}
-use Rattle.sums.specs.Words.{paired}
+use Rattle.pairs.specs.Words.{paired}
 use Rattle.store.specs.Factors.{D, E, Factors}
 
 -- (sorting wants the product as a variable, not as an abbreviation)

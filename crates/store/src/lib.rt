@@ -8,7 +8,7 @@ ghost use Prim.Native.Nat.{ℕ, _+_, _<_, _≤_};
 ghost use lib.ListN.{length};
 ghost use Rattle.answer.specs.Answer.{outcome-answer};
 ghost use Rattle.field.specs.Field.{_⊕_, _·_};
-ghost use Rattle.sums.specs.Words.{paired};
+ghost use Rattle.pairs.specs.Words.{paired};
 ghost use Rattle.code.specs.Block.{OneMember, Stored};
 ghost use Rattle.code.specs.Labels.{built-in};
 ghost use Rattle.store.specs.Steps.{Copied, Filled, Begun, in-row};
@@ -64,7 +64,7 @@ fn solve(once: u8, squared: u8) -> u64
     let c = b ^ (b << 1);
     let first = (a << 3) ^ (one << 1) ^ (one << 4) ^ (one << 39);
     let second = c ^ (c << 4) ^ (c << 6) ^ (two << 34);
-    sums::reduce_pair(first ^ second)
+    pairs::reduce_pair(first ^ second)
 }
 
 // Adds e to a byte of card 3 and to the byte of card 4 in its row.
@@ -84,8 +84,8 @@ fn write(rec: &[u8], out: &mut [u8])
     let s = sums::of_record(rec);
     begin(rec, sums::rows(s), out);
     let v = solve(s.once, s.squared);
-    add_in_row(out, 34, sums::once(v));
-    add_in_row(out, 35, sums::squared(v));
+    add_in_row(out, 34, pairs::once(v));
+    add_in_row(out, 35, pairs::squared(v));
 }
 
 // Stores a record. 2: the output is not 45 bytes; 3: the record is not 34.

@@ -19,9 +19,9 @@ use Rattle.field.proofs.Xor.{sums}
 use Rattle.field.proofs.Linear.{if-below}
 use Rattle.field.proofs.Sum.{sum-below}
 use Rattle.code.specs.Block.{byte, position}
-use Rattle.sums.specs.Words.{byte-of}
+use Rattle.pairs.specs.Words.{byte-of}
 use Rattle.sums.specs.Sums.{chip-sum, begun}
-use Rattle.sums.proofs.Bytes.{byte-of-add, byte-of-next}
+use Rattle.pairs.proofs.Bytes.{byte-of-add, byte-of-next}
 use Rattle.sums.proofs.Whole.{Holds}
 
 eighth : (w : ℕ) → w < 2 ^ 64 → byte-of w 8 ≡ 0

@@ -15,8 +15,8 @@ use Rattle.field.specs.Field.{_⊕_, sum}
 use Rattle.field.proofs.Xor.{sums, add-lt, add-zero}
 use Rattle.base.proofs.Tests.{below-suc}
 use Rattle.code.specs.Block.{byte, position, listed}
-use Rattle.sums.specs.Words.{byte-of}
-use Rattle.sums.proofs.Bytes.{byte-of-add, placed}
+use Rattle.pairs.specs.Words.{byte-of}
+use Rattle.pairs.proofs.Bytes.{byte-of-add, placed}
 
 -- ---- bytes joined by "or", one after the other: no byte meets another
 ored : (ℕ → ℕ) → ℕ → ℕ

@@ -17,7 +17,7 @@ use Rattle.code.specs.Block.{byte, Lawful}
 use Rattle.code.specs.Labels.{built-in}
 use Rattle.sums.specs.Sums.{rows-of, IsSums, BlockSums, IsRecordSums, RecordSums, FourLeft}
 use Rattle.sums.specs.declared.Sums.{Sums}
-use Rattle.sums.proofs.Bytes.{same-bytes}
+use Rattle.pairs.proofs.Bytes.{same-bytes}
 use Rattle.sums.proofs.Zero.{low-row}
 
 same-sums : (s s′ : Sums) → ((i : ℕ) → i < 9 → byte (rows-of s) i ≡ byte (rows-of s′) i) → s .low < 2 ^ 64 → s′ .low < 2 ^ 64

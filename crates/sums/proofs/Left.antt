@@ -23,10 +23,10 @@ use Rattle.field.proofs.Xor.{sums, add-lt}
 use Rattle.field.proofs.Sum.{sum-ext}
 use Rattle.code.specs.Block.{byte, position, Lawful}
 use Rattle.code.specs.Labels.{built-in}
-use Rattle.sums.specs.Words.{byte-of, at-point, paired, at-both}
-use Rattle.sums.proofs.Bytes.{byte-of-add, byte-of-zero, zero-bytes}
+use Rattle.pairs.specs.Words.{byte-of, at-point, paired, at-both}
+use Rattle.pairs.proofs.Bytes.{byte-of-add, byte-of-zero, zero-bytes}
 use Rattle.sums.proofs.Whole.{Word}
-use Rattle.sums.proofs.Fold.{no-pair, once-from, squared-from}
+use Rattle.pairs.proofs.Fold.{no-pair, once-from, squared-from}
 
 pub or-left : (a b : ℕ) → bitOr a b ≡ 0 → a ≡ 0
 or-left a b e = omega (arith, e, or-add-and a b, and-le-r a b)

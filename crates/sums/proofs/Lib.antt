@@ -1,8 +1,5 @@
-pub mod Points
-pub mod Bytes
 pub mod Cards
 pub mod Zero
-pub mod Fold
 pub mod Whole
 pub mod Syndrome
 pub mod Begun

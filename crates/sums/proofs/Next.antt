@@ -26,15 +26,16 @@ use Rattle.field.proofs.Sum.{sum-ext}
 use Rattle.code.specs.Block.{byte}
 use Rattle.code.specs.Labels.{built-in}
 use Rattle.code.proofs.BuiltIn.{figures, in-figures}
-use Rattle.sums.specs.Words.{byte-of, spread-of, spread, gathered, at-point, paired, at-both}
-use Rattle.sums.specs.Maps.{low, part, up, turned, times, settled}
+use Rattle.pairs.specs.Words.{byte-of, spread-of, spread, gathered, at-point, paired, at-both}
+use Rattle.pairs.specs.Shifts.{low, part, up}
+use Rattle.sums.specs.Maps.{turned, times, settled}
 use Rattle.sums.specs.Sums.{rows-of, taken, next}
 use Rattle.sums.specs.declared.Sums.{Sums}
-use Rattle.sums.proofs.Points.{through, agree, once-at, squared-at, spread-at, at-point-below}
-use Rattle.sums.proofs.Bytes.{byte-of-below, byte-of-add}
+use Rattle.pairs.proofs.Points.{through, agree, once-at, squared-at, spread-at, at-point-below}
+use Rattle.pairs.proofs.Bytes.{byte-of-below, byte-of-add}
 use Rattle.sums.proofs.Cards.{nine-at}
 use Rattle.sums.proofs.Zero.{low-row}
-use Rattle.sums.proofs.Fold.{after, low-add, part-add, up-add, paired-add, no-pair, first-of, second-of, once-from, squared-from}
+use Rattle.pairs.proofs.Fold.{after, low-add, part-add, up-add, paired-add, no-pair, first-of, second-of, once-from, squared-from}
 use Rattle.sums.proofs.Syndrome.{built-in-below}
 
 -- ---- card 0

@@ -14,10 +14,10 @@ use Rattle.code.specs.Block.{byte, position, Block, block-of}
 use Rattle.code.specs.Labels.{LabelSet}
 use Rattle.code.proofs.Blocks.{block-of-at, block-of-length}
 use Rattle.code.proofs.Onto.{onto}
-use Rattle.sums.specs.Words.{byte-of}
+use Rattle.pairs.specs.Words.{byte-of}
 use Rattle.sums.specs.Sums.{rows-of, IsSums}
 use Rattle.sums.specs.declared.Sums.{Sums}
-use Rattle.sums.proofs.Bytes.{byte-of-below}
+use Rattle.pairs.proofs.Bytes.{byte-of-below}
 use Rattle.sums.proofs.Cards.{nine-at}
 
 module _ (ls : List ℕ) (ok : LabelSet ls) (s : Sums)

@@ -20,11 +20,11 @@ use Rattle.code.specs.Labels.{built-in, entry, LabelSet}
 use Rattle.code.proofs.Card.{row, red-sum}
 use Rattle.code.proofs.BuiltIn.{figures, in-figures, built-in-set}
 use Rattle.code.proofs.Blocks.{all-below, label-below}
-use Rattle.sums.specs.Words.{byte-of, spread-of, spread, gathered, at-point, at-both}
+use Rattle.pairs.specs.Words.{byte-of, spread-of, spread, gathered, at-point, at-both}
 use Rattle.sums.specs.Sums.{rows-of, IsSums, ReducedSums}
 use Rattle.sums.specs.declared.Sums.{Sums}
-use Rattle.sums.proofs.Points.{once-at, squared-at, spread-at, spread-length}
-use Rattle.sums.proofs.Fold.{once-from, squared-from}
+use Rattle.pairs.proofs.Points.{once-at, squared-at, spread-at, spread-length}
+use Rattle.pairs.proofs.Fold.{once-from, squared-from}
 
 pub built-in-below : (p : ℕ) → byte built-in p < 2 ^ 8
 built-in-below = label-below built-in built-in-set

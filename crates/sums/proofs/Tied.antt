@@ -7,7 +7,7 @@ use denote.Triple.Clauses
 use denote.Ref.{now}
 use mathlib.Core.Path.{_≡_}
 use Rattle.code.specs.Labels.{built-in}
-use Rattle.sums.specs.Words.{byte-of, spread, gathered, paired, at-both, reduced}
+use Rattle.pairs.specs.Words.{spread, gathered, paired, at-both}
 use Rattle.sums.specs.Sums.{rows-of, all-zero, BlockSums, RecordSums, taken, next, FourLeft}
 use Rattle.sums.proofs.of_block as of-block
 use Rattle.sums.proofs.of_block.Kinds as of-block-kinds
@@ -15,15 +15,6 @@ use Rattle.sums.proofs.of_block.Reads as of-block-reads
 use Rattle.sums.proofs.of_record as of-record
 use Rattle.sums.proofs.of_record.Kinds as of-record-kinds
 use Rattle.sums.proofs.of_record.Reads as of-record-reads
-use Rattle.sums.proofs.reduce_pair as reduce-pair
-use Rattle.sums.proofs.reduce_pair.Kinds as reduce-pair-kinds
-use Rattle.sums.proofs.reduce_pair.Reads as reduce-pair-reads
-use Rattle.sums.proofs.once as once
-use Rattle.sums.proofs.once.Kinds as once-kinds
-use Rattle.sums.proofs.once.Reads as once-reads
-use Rattle.sums.proofs.squared as squared
-use Rattle.sums.proofs.squared.Kinds as squared-kinds
-use Rattle.sums.proofs.squared.Reads as squared-reads
 use Rattle.sums.proofs.both as both
 use Rattle.sums.proofs.both.Kinds as both-kinds
 use Rattle.sums.proofs.both.Reads as both-reads
@@ -61,30 +52,6 @@ of-record-tied κs a r s l = l
 
 pub of-record-asks : (κs : Lifetimes.Lfts 1) (a : World.ArgsD of-record.signature κs) → of-record-reads.Asked κs a
 of-record-asks κs a = tt
-
-pub reduce-pair-tied : (κs : Lifetimes.Lfts 0) (a : World.ArgsD reduce-pair.signature κs) (r : World.ResD reduce-pair.signature κs)
-    (s : Clauses.AtExit (Kinds.endedOf 0 reduce-pair-kinds.ps reduce-pair-kinds.r) κs) → reduce-pair-reads.Learnt κs a r s
-    → r ≡ reduced (a .0)
-reduce-pair-tied κs a r s l = l
-
-pub reduce-pair-asks : (κs : Lifetimes.Lfts 0) (a : World.ArgsD reduce-pair.signature κs) → reduce-pair-reads.Asked κs a
-reduce-pair-asks κs a = tt
-
-pub once-tied : (κs : Lifetimes.Lfts 0) (a : World.ArgsD once.signature κs) (r : World.ResD once.signature κs)
-    (s : Clauses.AtExit (Kinds.endedOf 0 once-kinds.ps once-kinds.r) κs) → once-reads.Learnt κs a r s
-    → r ≡ byte-of (a .0) 0
-once-tied κs a r s l = l
-
-pub once-asks : (κs : Lifetimes.Lfts 0) (a : World.ArgsD once.signature κs) → once-reads.Asked κs a
-once-asks κs a = tt
-
-pub squared-tied : (κs : Lifetimes.Lfts 0) (a : World.ArgsD squared.signature κs) (r : World.ResD squared.signature κs)
-    (s : Clauses.AtExit (Kinds.endedOf 0 squared-kinds.ps squared-kinds.r) κs) → squared-reads.Learnt κs a r s
-    → r ≡ byte-of (a .0) 4
-squared-tied κs a r s l = l
-
-pub squared-asks : (κs : Lifetimes.Lfts 0) (a : World.ArgsD squared.signature κs) → squared-reads.Asked κs a
-squared-asks κs a = tt
 
 pub both-tied : (κs : Lifetimes.Lfts 0) (a : World.ArgsD both.signature κs) (r : World.ResD both.signature κs)
     (s : Clauses.AtExit (Kinds.endedOf 0 both-kinds.ps both-kinds.r) κs) → both-reads.Learnt κs a r s

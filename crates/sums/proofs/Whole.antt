@@ -25,11 +25,12 @@ use Rattle.field.proofs.Sum.{sum-ext}
 use Rattle.code.specs.Block.{byte}
 use Rattle.code.specs.Labels.{built-in}
 use Rattle.code.proofs.BuiltIn.{figures, in-figures}
-use Rattle.sums.specs.Words.{byte-of, spread-of, spread}
-use Rattle.sums.specs.Maps.{up, lower, upper, quotient, wrapped}
-use Rattle.sums.proofs.Points.{through, agree, spread-at, spread-times-add}
-use Rattle.sums.proofs.Bytes.{same-bytes, placed}
-use Rattle.sums.proofs.Fold.{up-add, after}
+use Rattle.pairs.specs.Words.{byte-of, spread-of, spread}
+use Rattle.pairs.specs.Shifts.{up}
+use Rattle.sums.specs.Maps.{lower, upper, quotient, wrapped}
+use Rattle.pairs.proofs.Points.{through, agree, spread-at, spread-times-add}
+use Rattle.pairs.proofs.Bytes.{same-bytes, placed}
+use Rattle.pairs.proofs.Fold.{up-add, after}
 
 pub lower-add : (p q b a p′ q′ b′ a′ : ℕ) → lower (p ⊕ p′) (q ⊕ q′) (b ⊕ b′) (a ⊕ a′) ≡ lower p q b a ⊕ lower p′ q′ b′ a′
 unfolding lower

@@ -14,10 +14,10 @@ use lib.Dec.{eqb}
 use borrow.Author.Tests.{eqb-true, eq-eqb, ne-eqb}
 use Rattle.base.proofs.Tests.{same}
 use Rattle.code.specs.Block.{byte, Lawful}
-use Rattle.sums.specs.Words.{byte-of}
+use Rattle.pairs.specs.Words.{byte-of}
 use Rattle.sums.specs.Sums.{rows-of, IsSums, all-zero}
 use Rattle.sums.specs.declared.Sums.{Sums}
-use Rattle.sums.proofs.Bytes.{byte-of-zero, zero-bytes}
+use Rattle.pairs.proofs.Bytes.{byte-of-zero, zero-bytes}
 use Rattle.sums.proofs.Cards.{nine-at}
 
 two : (a b : ℕ) → eqb (bitOr a b) 0 ≡ eqb a 0 && eqb b 0

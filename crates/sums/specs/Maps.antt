@@ -1,23 +1,12 @@
 -- The maps that the code's shifts, masks and sums make of words. No promise rests on them: proofs/ shows what they come to.
 --
---   low, part         a mask; a shift down and a mask
---   up s v            v shifted up by s, in 64 digits
 --   lower, upper      five cards' words as polynomials with bytes for digits, card j's times 152 ^ j, from p, q, b and a: the digits 0 to 7,
 --                     and 8 to 15
 --   quotient, wrapped sixteen such digits brought down to eight by the field's modulus
 --   turned, times, settled   a product in each of the two bytes of a pair, before and after the modulus
-use Prim.Native.Nat.{ℕ, _*_, _/_, _%_, _^_}
-use lib.Bits.{bitAnd}
+use Prim.Native.Nat.{ℕ, _/_, _^_}
 use Rattle.field.specs.Field.{_⊕_}
-
-unfoldable pub low : ℕ → ℕ → ℕ
-low m v = bitAnd v m
-
-unfoldable pub part : ℕ → ℕ → ℕ → ℕ
-part s m v = bitAnd (v / 2 ^ s) m
-
-unfoldable pub up : ℕ → ℕ → ℕ
-up s v = v * 2 ^ s % 2 ^ 64
+use Rattle.pairs.specs.Shifts.{low, part, up}
 
 unfoldable pub lower : (p q b a : ℕ) → ℕ
 lower p q b a = p ⊕ up 8 (a ⊕ up 8 (b ⊕ up 8 (a ⊕ q ⊕ up 8 (q ⊕ up 16 (b ⊕ up 8 q)))))

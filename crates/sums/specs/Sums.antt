@@ -24,7 +24,7 @@ use Rattle.base.specs.Base.{if, digit}
 use Rattle.field.specs.Field.{_·_, sum}
 use Rattle.code.specs.Block.{byte, position, listed, Lawful}
 use Rattle.code.specs.Labels.{entry, built-in}
-use Rattle.sums.specs.Words.{byte-of, spread, gathered, paired, at-both}
+use Rattle.pairs.specs.Words.{byte-of, spread, gathered, paired, at-both}
 use Rattle.sums.specs.declared.Sums.{Sums}
 
 abbrev pub rows-of : Sums → List ℕ

@@ -6,7 +6,7 @@ ghost use lib.ListN.{length, getD, take, drop};
 ghost use Rattle.field.specs.Field.{sum};
 ghost use Rattle.code.specs.Block.{byte, Lawful};
 ghost use Rattle.code.specs.Labels.{built-in};
-ghost use Rattle.sums.specs.Words.{spread, gathered, at-both};
+ghost use Rattle.pairs.specs.Words.{spread, gathered, at-both};
 ghost use Rattle.sums.specs.Maps.{lower, upper, wrapped};
 ghost use Rattle.sums.specs.Sums.{taken, next, begun, FourLeft};
 use super::Sums;
@@ -114,14 +114,14 @@ fn gather_card(rows: &[u8], j: u8) -> u64
 pub fn on_card(rows: [u8; 9], j: u8) -> u64
     ensures { λ r. ⌜ r ≡ at-both (gathered rows (spread built-in) j) ⌝ }
 {
-    super::pair(gather_card(&rows, j))
+    pairs::pair(gather_card(&rows, j))
 }
 
 // The same for card 0. Its labels are 1, x, .., x ^ 7, so that the word of the rows gathers itself, and x ^ 8 = x ^ 4 + x ^ 3 + x ^ 2 + 1.
 pub fn first_card(s: Sums) -> u64
     ensures { λ r. ⌜ r ≡ taken s 0 ⌝ }
 {
-    super::pair(s.low ^ (super::wide(s.high) * 0x0000000101010001))
+    pairs::pair(s.low ^ (super::wide(s.high) * 0x0000000101010001))
 }
 
 // From what a card takes to what the next one does: 152 times the one, and 152 squared = 78 times the other, each of degree 14 at most
@@ -155,7 +155,7 @@ fn left_at(b: &[u8], at: usize) -> u64
         ^ super::word(b, at + 19)
         ^ super::word(b, at + 28)
         ^ super::word(b, at + 37);
-    low | high | super::pair(gather_at(b, at))
+    low | high | pairs::pair(gather_at(b, at))
 }
 
 fn one_unless_zero(u: u64) -> u64

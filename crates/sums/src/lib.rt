@@ -4,15 +4,16 @@
 //
 // The label sums take no product a byte. A label is kept as a word with one of its eight binary digits in each byte, so that byte times
 // word, summed over the positions, gathers in byte k the bytes whose label has digit k. A label sum is then that word's eight bytes as a
-// polynomial, at x for the labels and at x squared for their squares; the two are worked out together, as a pair of bytes 32 digits apart.
+// polynomial, at x for the labels and at x squared for their squares; the two are worked out together, as a pair of bytes 32 digits apart
+// (crate pairs).
 //
 // What holds for the built-in labels alone is in built_in.rt.
 ghost use mathlib.Core.Path.{_≡_};
-ghost use Prim.Native.Nat.{ℕ, _+_, _*_, _/_, _%_, _<_, _≤_, _^_};
+ghost use Prim.Native.Nat.{ℕ, _+_, _*_, _%_, _<_, _≤_, _^_};
 ghost use lib.ListN.{length};
 ghost use Rattle.field.specs.Field.{sum};
 ghost use Rattle.code.specs.Block.{byte, position};
-ghost use Rattle.sums.specs.Words.{byte-of, paired, at-both, reduced};
+ghost use Rattle.pairs.specs.Words.{byte-of, paired};
 ghost use Rattle.sums.specs.Sums.{rows-of, no-sums, all-zero, chip-sum, BlockSums, RecordSums};
 
 pub mod built_in;
@@ -32,59 +33,7 @@ fn wide(x: u8) -> u64
     x as u64
 }
 
-// The byte of a word that begins at digit k.
-fn part(u: u64, k: u64) -> u8
-    requires { ⌜ k < 64 ⌝ }
-    ensures { λ r. ⌜ r ≡ u / 2 ^ k % 2 ^ 8 ⌝ }
-{
-    ((u >> k) & 0xff) as u8
-}
-
-// ---- two values, 32 digits apart
-// Two polynomials of degree 21 at most, 32 digits apart, each by the modulus x ^ 8 + x ^ 4 + x ^ 3 + x ^ 2 + 1: it goes into x ^ 8
-// 1 + x ^ -4 + x ^ -5 + x ^ -6 + x ^ -10 + x ^ -13 + .. times. Digits 22 to 31 of each are not looked at.
-pub fn reduce_pair(v: u64) -> u64
-    ensures { λ r. ⌜ r ≡ reduced v ⌝ }
-{
-    let h = (v >> 8) & 0x00003fff00003fff;
-    let a = (h ^ (h >> 3)) >> 4;
-    let b = (h ^ a) >> 1;
-    let c = (h ^ b) >> 1;
-    let q = (h ^ ((h ^ c) >> 4)) & 0x000000ff000000ff;
-    let d = (q ^ (q << 1)) << 1;
-    (v ^ q ^ ((q ^ d) << 2)) & 0x000000ff000000ff
-}
-
-// The word's bytes as a polynomial, at x in digits 0 to 31 and at x squared from digit 32 on. Neighbours are added, the upper one shifted
-// by 1, then pairs by 2, then fours by 4; at x squared twice as far.
-fn pair(u: u64) -> u64
-    ensures { λ r. ⌜ r ≡ at-both u ⌝ }
-{
-    let even = u & 0x00ff00ff00ff00ff;
-    let odd = (u >> 8) & 0x00ff00ff00ff00ff;
-    let one = even ^ (odd << 1);
-    let two = even ^ (odd << 2);
-    let pairs = (one ^ (one >> 14)) & 0x0000ffff0000ffff;
-    let fours = (two ^ (two >> 12)) & 0x0000ffff0000ffff;
-    let v = ((pairs ^ (pairs >> 28)) & 0xffffffff) ^ ((fours ^ (fours >> 24)) << 32);
-    reduce_pair(v)
-}
-
-// The first of a pair of label sums: that of the labels.
-pub fn once(v: u64) -> u8
-    ensures { λ r. ⌜ r ≡ byte-of v 0 ⌝ }
-{
-    part(v, 0)
-}
-
-// The second: that of their squares.
-pub fn squared(v: u64) -> u8
-    ensures { λ r. ⌜ r ≡ byte-of v 4 ⌝ }
-{
-    part(v, 32)
-}
-
-// The two label sums as such a pair.
+// The two label sums as a pair.
 pub fn both(s: Sums) -> u64
     ensures { λ r. ⌜ r ≡ paired (s .once) (s .squared) ⌝ }
 {
@@ -175,14 +124,14 @@ pub fn of_block(block: &[u8]) -> Sums
     if block.len() != 45 {
         return no_sums();
     }
-    let v = pair(built_in::gather_at(block, 0));
+    let v = pairs::pair(built_in::gather_at(block, 0));
     let low = low_rows(block);
     let high = last_row(block);
     Sums {
         low,
         high,
-        once: once(v),
-        squared: squared(v),
+        once: pairs::once(v),
+        squared: pairs::squared(v),
     }
 }
 
@@ -194,14 +143,14 @@ pub fn of_record(rec: &[u8]) -> Sums
     if rec.len() != 34 {
         return no_sums();
     }
-    let v = pair(built_in::gather_record(rec));
+    let v = pairs::pair(built_in::gather_record(rec));
     let low = low_sums(rec);
-    let high = part(high_sums(rec), 56);
+    let high = pairs::part(high_sums(rec), 56);
     Sums {
         low,
         high,
-        once: once(v),
-        squared: squared(v),
+        once: pairs::once(v),
+        squared: pairs::squared(v),
     }
 }
 
@@ -218,14 +167,14 @@ pub fn rows(s: Sums) -> [u8; 9]
 {
     let u = s.low;
     [
-        part(u, 0),
-        part(u, 8),
-        part(u, 16),
-        part(u, 24),
-        part(u, 32),
-        part(u, 40),
-        part(u, 48),
-        part(u, 56),
+        pairs::part(u, 0),
+        pairs::part(u, 8),
+        pairs::part(u, 16),
+        pairs::part(u, 24),
+        pairs::part(u, 32),
+        pairs::part(u, 40),
+        pairs::part(u, 48),
+        pairs::part(u, 56),
         s.high,
     ]
 }

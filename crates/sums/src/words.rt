@@ -3,7 +3,7 @@ ghost use mathlib.Core.Path.{_≡_};
 ghost use Prim.Native.Nat.{ℕ, _+_, _*_, _<_};
 ghost use lib.ListN.{getD};
 ghost use Rattle.code.specs.Labels.{built-in};
-ghost use Rattle.sums.specs.Words.{spread};
+ghost use Rattle.pairs.specs.Words.{spread};
 
 // Card j's nine; there is no card above 4, and its words are 0. A match of constants stays in read-only memory.
 pub(crate) fn card_words(j: u8) -> [u64; 9]

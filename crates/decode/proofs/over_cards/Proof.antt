@@ -12,9 +12,9 @@ use Rattle.code.specs.Reach.{Beside, keep}
 use Rattle.code.proofs.Few.{keep-beside}
 use Rattle.marks.specs.Marks.{marked-chips}
 use Rattle.marks.specs.declared.CardMark.the-variants.{None}
-use Rattle.sums.specs.Words.{byte-of, spread, gathered}
+use Rattle.pairs.specs.Words.{byte-of, spread, gathered}
 use Rattle.sums.specs.Sums.{rows-of, taken, next}
-use Rattle.sums.proofs.Fold.{once-from, squared-from}
+use Rattle.pairs.proofs.Fold.{once-from, squared-from}
 use Rattle.sums.proofs.Next.{next-taken}
 use Rattle.reading.specs.declared.Reading.the-variants.{Several, Refused}
 use Rattle.marks.proofs.Laws.{few-chips}

@@ -11,9 +11,9 @@ use Rattle.code.specs.Reach.{Beside}
 use Rattle.code.proofs.Few.{keep-beside}
 use Rattle.marks.specs.Marks.{chips-of, marked-chips}
 use Rattle.marks.specs.declared.CardMark.the-variants.{Card}
-use Rattle.sums.specs.Words.{byte-of, spread, gathered}
+use Rattle.pairs.specs.Words.{byte-of, spread, gathered}
 use Rattle.sums.specs.Sums.{rows-of}
-use Rattle.sums.proofs.Fold.{once-from, squared-from}
+use Rattle.pairs.proofs.Fold.{once-from, squared-from}
 use Rattle.marks.proofs.Laws.{few-chips}
 use Rattle.decode.specs.Equations.{fits-by, Solves, chips-off}
 use Rattle.decode.specs.Search.{SumsAt}

@@ -2,7 +2,7 @@
 use mathlib.Core.Path.{_∙_}
 use native.Mathlib.Omega.{arith}
 use Rattle.field.specs.Field.{_⊕_}
-use Rattle.sums.specs.Maps.{up}
+use Rattle.pairs.specs.Shifts.{up}
 use Rattle.store.proofs.Shifts.{first, twice, second, solved-is}
 use Rattle.store.proofs.Solved.{by-figures}
 use borrow.Author.Needs.{needs}

@@ -9,8 +9,8 @@ use Rattle.field.proofs.Gf256.{field}
 use Rattle.code.specs.Block.{byte}
 use Rattle.code.specs.Labels.{built-in}
 use Rattle.code.proofs.BuiltIn.{built-in-set}
-use Rattle.sums.specs.Words.{byte-of}
-use Rattle.sums.proofs.Fold.{first-of, second-of}
+use Rattle.pairs.specs.Words.{byte-of}
+use Rattle.pairs.proofs.Fold.{first-of, second-of}
 use Rattle.store.proofs.Solved.{built-in-factors}
 use Rattle.store.proofs.Storing.{is-stored}
 use borrow.Author.Needs.{needs}

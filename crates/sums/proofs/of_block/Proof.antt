@@ -6,7 +6,7 @@ use lib.ListN.{getD}
 use Rattle.code.specs.Block.{byte, position}
 use Rattle.code.specs.Labels.{built-in}
 use Rattle.field.specs.Field.{sum}
-use Rattle.sums.specs.Words.{byte-of, spread}
+use Rattle.pairs.specs.Words.{byte-of, spread}
 use Rattle.sums.proofs.Cards.{nine-at}
 use Rattle.sums.proofs.Syndrome.{built-in-below, pair-once, pair-squared, from-zero}
 use borrow.Author.Needs.{needs}

@@ -3,7 +3,7 @@ use mathlib.Core.Path.{_≡_, refl, _∙_}
 use Prim.Native.Nat.{ℕ, _<_, _^_}
 use native.Mathlib.Omega.{arith}
 use Rattle.code.specs.Labels.{built-in}
-use Rattle.sums.specs.Words.{byte-of}
+use Rattle.pairs.specs.Words.{byte-of}
 use Rattle.sums.specs.Sums.{chip-sum, begun}
 use Rattle.sums.proofs.Cards.{nine-at}
 use Rattle.sums.proofs.Begun.{begun-below}

@@ -1,5 +1,5 @@
 -- Each part is a byte of the word.
-use Rattle.sums.specs.Words.{byte-of}
+use Rattle.pairs.specs.Words.{byte-of}
 use borrow.Author.Needs.{needs}
 use Rattle.sums.proofs.rows.Statement.{statement}
 use Rattle.sums.proofs.rows.Tie as tie

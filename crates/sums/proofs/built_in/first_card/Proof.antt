@@ -3,7 +3,7 @@ use mathlib.Core.Path.{ap, _∙_}
 use Prim.Native.Nat.{ℕ, _*_}
 use native.Mathlib.Omega.{arith}
 use Rattle.field.specs.Field.{_⊕_}
-use Rattle.sums.specs.Words.{at-both}
+use Rattle.pairs.specs.Words.{at-both}
 use Rattle.sums.proofs.Next.{first-gathered}
 use borrow.Author.Needs.{needs}
 use Rattle.sums.proofs.built_in.first_card.Statement.{statement}

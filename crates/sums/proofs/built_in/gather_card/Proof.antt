@@ -5,8 +5,8 @@ use native.Mathlib.Omega.{arith}
 use lib.ListN.{getD}
 use Rattle.field.specs.Field.{sum, _⊕_}
 use Rattle.code.specs.Labels.{built-in}
-use Rattle.sums.specs.Words.{spread, gathered}
-use Rattle.sums.proofs.Points.{one-more, spread-small, word-fits}
+use Rattle.pairs.specs.Words.{spread, gathered}
+use Rattle.pairs.proofs.Points.{one-more, spread-small, word-fits}
 use Rattle.sums.proofs.built_in.gather_card.Statement.{statement}
 use Rattle.sums.proofs.built_in.gather_card.Tie as tie
 

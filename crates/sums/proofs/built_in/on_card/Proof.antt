@@ -1,6 +1,6 @@
 -- Both points' values of the gathered word.
 use mathlib.Core.Path.{ap, _∙_}
-use Rattle.sums.specs.Words.{at-both}
+use Rattle.pairs.specs.Words.{at-both}
 use borrow.Author.Needs.{needs}
 use Rattle.sums.proofs.built_in.on_card.Statement.{statement}
 use Rattle.sums.proofs.built_in.on_card.Tie as tie

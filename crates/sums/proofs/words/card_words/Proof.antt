@@ -2,7 +2,7 @@
 use mathlib.Core.Path.{refl}
 use native.Mathlib.Omega.{arith}
 use Rattle.code.proofs.BuiltIn.{figures}
-use Rattle.sums.specs.Words.{spread-of}
+use Rattle.pairs.specs.Words.{spread-of}
 use Rattle.sums.proofs.Syndrome.{in-part, no-part}
 use Rattle.sums.proofs.words.card_words.Statement.{statement}
 use Rattle.sums.proofs.words.card_words.Tie as tie

@@ -1,12 +1,12 @@
 -- Shifts, masks and sums give an additive map, which is the two points' values at the powers of 2.
 use mathlib.Core.Path.{_∙_}
 use Rattle.field.specs.Field.{_⊕_}
-use Rattle.sums.specs.Maps.{low, part, up}
-use Rattle.sums.proofs.Fold.{halves, both, both-is}
+use Rattle.pairs.specs.Shifts.{low, part, up}
+use Rattle.pairs.proofs.Fold.{halves, both, both-is}
 use native.Mathlib.Omega.{arith}
 use borrow.Author.Needs.{needs}
-use Rattle.sums.proofs.pair.Statement.{statement}
-use Rattle.sums.proofs.pair.Tie as tie
+use Rattle.pairs.proofs.pair.Statement.{statement}
+use Rattle.pairs.proofs.pair.Tie as tie
 
 returns : tie.Need-returns
 unfolding low part up halves both _⊕_

@@ -21,8 +21,8 @@ use Rattle.field.proofs.Xor.{add-shr, add-mod}
 use Rattle.field.proofs.Linear.{Additive, at-zero}
 use Rattle.field.proofs.Sum.{sum-ext, sum-one}
 use Rattle.base.specs.Base.{if}
-use Rattle.sums.specs.Words.{byte-of}
-use Rattle.sums.proofs.Points.{through}
+use Rattle.pairs.specs.Words.{byte-of}
+use Rattle.pairs.proofs.Points.{through}
 
 pub byte-of-add : (i : ℕ) → Additive (λ u. byte-of u i)
 unfolding byte-of

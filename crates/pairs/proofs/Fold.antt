@@ -18,9 +18,9 @@ use Rattle.base.proofs.Tests.{every}
 use Rattle.field.proofs.Xor.{sums, add-shr, add-mod, swap}
 use Rattle.field.proofs.Remainder.{times-pow-add, remainder-add}
 use Rattle.field.proofs.Linear.{bit-lt, bit-ind, Additive}
-use Rattle.sums.specs.Words.{byte-of, at-point, paired, at-both, reduced}
-use Rattle.sums.specs.Maps.{low, part, up}
-use Rattle.sums.proofs.Points.{at-point-add, at-point-below, agree}
+use Rattle.pairs.specs.Words.{byte-of, at-point, paired, at-both, reduced}
+use Rattle.pairs.specs.Shifts.{low, part, up}
+use Rattle.pairs.proofs.Points.{at-point-add, at-point-below, agree}
 
 digit : (x y z : ℕ) → x < 2 → y < 2 → z < 2 → min (bitXor x y) z ≡ differ (bitAnd x z) (bitAnd y z)
 digit x y z hx hy hz =

@@ -29,7 +29,7 @@ use Rattle.field.proofs.Ring.{add-mul, zero-mul as zero-times}
 use Rattle.field.proofs.Sum.{sum-ext}
 use Rattle.field.proofs.Squares.{square-add}
 use Rattle.code.specs.Block.{byte}
-use Rattle.sums.specs.Words.{spread-of, spread, at-point}
+use Rattle.pairs.specs.Words.{spread-of, spread, at-point}
 
 -- one byte more
 pub one-more : (bytes words : ℕ → ℕ) (p b u : ℕ) → b ≡ bytes p → u ≡ sum p (λ q. bytes q * words q) → (b * words p) ⊕ u ≡ sum (p + 1) (λ q. bytes q * words q)

@@ -1,8 +1,8 @@
 -- The lowest byte.
-use Rattle.sums.specs.Words.{byte-of}
+use Rattle.pairs.specs.Words.{byte-of}
 use borrow.Author.Needs.{needs}
-use Rattle.sums.proofs.once.Statement.{statement}
-use Rattle.sums.proofs.once.Tie as tie
+use Rattle.pairs.proofs.once.Statement.{statement}
+use Rattle.pairs.proofs.once.Tie as tie
 
 returns : tie.Need-returns
 unfolding byte-of

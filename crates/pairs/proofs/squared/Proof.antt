@@ -1,8 +1,8 @@
 -- The byte from digit 32 on.
-use Rattle.sums.specs.Words.{byte-of}
+use Rattle.pairs.specs.Words.{byte-of}
 use borrow.Author.Needs.{needs}
-use Rattle.sums.proofs.squared.Statement.{statement}
-use Rattle.sums.proofs.squared.Tie as tie
+use Rattle.pairs.proofs.squared.Statement.{statement}
+use Rattle.pairs.proofs.squared.Tie as tie
 
 returns : tie.Need-returns
 unfolding byte-of

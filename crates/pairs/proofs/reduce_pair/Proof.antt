@@ -1,10 +1,10 @@
 -- The code's masks, shifts and sums are an additive map, which is two remainders at the powers of 2.
 use native.Mathlib.Omega.{arith}
 use Rattle.field.specs.Field.{_⊕_}
-use Rattle.sums.specs.Maps.{low, part, up}
-use Rattle.sums.proofs.Fold.{quotients, lesser, lesser-is}
-use Rattle.sums.proofs.reduce_pair.Statement.{statement}
-use Rattle.sums.proofs.reduce_pair.Tie as tie
+use Rattle.pairs.specs.Shifts.{low, part, up}
+use Rattle.pairs.proofs.Fold.{quotients, lesser, lesser-is}
+use Rattle.pairs.proofs.reduce_pair.Statement.{statement}
+use Rattle.pairs.proofs.reduce_pair.Tie as tie
 
 returns : tie.Need-returns
 unfolding low part up quotients lesser _⊕_

@@ -1,0 +1,4 @@
+pub mod Points
+pub mod Bytes
+pub mod Fold
+pub mod Tied
