@@ -1,4 +1,6 @@
 // A bank of blocks in lent bytes: clear, put, get, patrol, and a report over it.
+#![tactic(auto)]
+
 ghost use Rattle.std.specs.Prelude.{◌≡◌, ◌+◌, ◌*◌, ◌/◌, ◌≤◌, ◌<◌, length, replicate};
 ghost use Rattle.answer.specs.Answer.{outcome_answer};
 ghost use Rattle.answer.specs.Cause.{lowest};
@@ -9,7 +11,7 @@ ghost use Rattle.bank.specs.Calls.{blocks, size_causes, place_causes, ClearDone,
 ghost use Rattle.bank.specs.Count.{LeftFrom, ClassAt, CountedBlocks};
 
 // How many blocks read as each.
-#[derive(Drop)]
+#[derive(Clone, Copy)]
 pub struct Totals {
     pub clean: u16,
     pub chips: u16,
@@ -19,7 +21,7 @@ pub struct Totals {
 }
 
 // The totals, or the number of the refusal.
-#[derive(Drop)]
+#[derive(Clone, Copy)]
 pub enum Reported {
     Counted(Totals),
     Refused(u8),

@@ -1,4 +1,6 @@
 // One block: read under marks into an output, mended where it stands, or only looked at; and the record as a part of the caller's output.
+#![tactic(auto)]
+
 ghost use Rattle.std.specs.Prelude.{◌≡◌, min, length};
 ghost use Rattle.reading.specs.Reading.{reading_answer};
 ghost use Rattle.block.specs.Read.{read_cause, mend_cause, ReadDone, NotedDone, MendDone, LookDone, FourUnclean, is_corrected, record_in};
@@ -34,8 +36,8 @@ fn copy_block(from: &[u8], to: &mut [u8])
         let start = next_start(at);
         let end = start + 16;
         let mut piece = [0u8; 16];
-        bytes::copy(&from[start..end], &mut piece);
-        bytes::copy(&piece, &mut to[start..end]);
+        piece.copy_from_slice(&from[start..end]);
+        to[start..end].copy_from_slice(&piece);
         at = end;
     }
 }

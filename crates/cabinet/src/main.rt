@@ -1,5 +1,7 @@
 // The bank program: 4 mark bytes and a bank on standard input; on standard output what its blocks read as.
 // It only reads, has it said, and writes: what is printed is decided in the crate `program`, and proved there for every input.
+#![tactic(auto)]
+
 use libc::{STDIN_FILENO, STDOUT_FILENO};
 
 fn main() {

@@ -2,6 +2,8 @@
 //
 // Marks come in four bytes. Bytes of another length are a record outside its ranges, and so is a chip or a card of any other number.
 // Registers come in twelve and the window in 64, as arrays, which have no other length.
+#![tactic(auto)]
+
 mod encode;
 
 ghost use Rattle.capi.specs.Exports.{StoreCoded, ReadCoded, ClearCoded, PutCoded, GetCoded, PatrolCoded, ReportCoded, MarkCoded};
@@ -78,7 +80,7 @@ fn mark(m: &mut [u8], call: MarkCall) -> u32
     let after = r.marks;
     let c = encode::of_outcome(answer);
     if c == 0 {
-        bytes::copy(&marks::to_bytes(after), m);
+        m.copy_from_slice(&marks::to_bytes(after));
     }
     c
 }

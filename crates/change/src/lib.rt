@@ -1,12 +1,14 @@
 // What a reading changes in a block: a card's nine rows and two further chips, eleven places at most, and no second block.
 //
 // A sum is exclusive or, so that a change is made by adding it, and made twice it is undone.
+#![tactic(auto)]
+
 ghost use Rattle.std.specs.Prelude.{◌≡◌, ◌&&◌, ◌++◌, ◌+◌, ◌*◌, ◌≤◌, ◌<◌, leb, ltb, length, take, drop};
 ghost use Rattle.base.specs.Base.{bit, tally, only, those};
 ghost use Rattle.change.specs.Change.{applied, no_change, nonzero, nonzero_at, row_test, ordered, Counted, Listed, AddedAt, RowsAdded};
 
 // What is added: to a card its nine rows, e at position p and f at position q.
-#[derive(Drop)]
+#[derive(Clone, Copy)]
 pub struct Change {
     pub card: u8,
     pub rows: [u8; 9],
@@ -17,7 +19,7 @@ pub struct Change {
 }
 
 // Positions: the first `count` of `at`.
-#[derive(Drop)]
+#[derive(Clone, Copy)]
 pub struct Positions {
     pub count: u8,
     pub at: [u8; 11],

@@ -23,11 +23,11 @@ use Rattle.code.specs.Reach.{rules}
 use Rattle.code.proofs.Card.{rule, Law}
 
 listed_length : (y : ℕ → ℕ) (n : ℕ) (l : List ℕ) → length (listed y n l) ≡ n + length l
-listed_length y zero l = sym (native.Mathlib.Nat.zero_add (length l))
+listed_length y zero l = sym (native.Mathlib.Nat.zero-add (length l))
 listed_length y (suc n) l = listed_length y n (y n ∷ l) ∙ (let e : n + suc (length l) ≡ suc n + length l = omega arith in e)
 
 listed_after : (y : ℕ → ℕ) (n i : ℕ) (l : List ℕ) → get_or (listed y n l) (n + i) 0 ≡ get_or l i 0
-listed_after y zero i l = ap (λ (k : ℕ). get_or l k 0) (native.Mathlib.Nat.zero_add i)
+listed_after y zero i l = ap (λ (k : ℕ). get_or l k 0) (native.Mathlib.Nat.zero-add i)
 listed_after y (suc n) i l =
     let e : suc n + i ≡ n + suc i = omega arith in
     ap (λ (k : ℕ). get_or (listed y n (y n ∷ l)) k 0) e ∙ listed_after y n (suc i) (y n ∷ l)

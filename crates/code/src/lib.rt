@@ -1,4 +1,6 @@
 // The labels of the code. Its definitions are in specs/, and what follows of them in proofs/.
+#![tactic(auto)]
+
 ghost use Rattle.std.specs.Prelude.{◌≡◌};
 ghost use Rattle.code.specs.Labels.{built_in};
 

@@ -7,7 +7,7 @@ ghost use Rattle.decode.specs.Equations.{chips_off};
 ghost use Rattle.decode.specs.Search.{stray, strays};
 
 // The marked chips off a card: at most two.
-#[derive(Drop)]
+#[derive(Clone, Copy)]
 pub(crate) struct OffCard {
     pub(crate) count: u8,
     pub(crate) first: u8,

@@ -4,6 +4,8 @@
 // and two cards that are not of the chip kind reach different blocks, so that no block is compared with another. The cards are searched
 // from 0 up, so that the first that is found is the lowest. The block itself is not looked at: what is said holds for every block with
 // these sums.
+#![tactic(auto)]
+
 ghost use Rattle.std.specs.Prelude.{◌≡◌, [], ◌<◌};
 ghost use Rattle.base.specs.Base.{tally};
 ghost use Rattle.code.specs.Labels.{built_in, LabelSet};
@@ -20,7 +22,7 @@ mod equations;
 
 // A reading, and the change that it stands for: none on a refusal. Several changes can lead to one block, and which of them it is stays
 // in this crate: what can be seen of it is what it makes of a block, and which positions it changes.
-#[derive(Drop)]
+#[derive(Clone, Copy)]
 pub struct Decoded {
     pub reading: reading::Reading,
     change: change::Change,

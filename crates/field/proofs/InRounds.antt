@@ -30,8 +30,8 @@ rounds_sum k m (suc n) a b =
     ap (λ (x : ℕ). (b % 2 * a) ⊕ x)
     (rounds_sum k m n (times_x k m a) (b / 2)
     ∙ sum_ext n (λ i. b / 2 / 2 ^ i % 2 * pw k m i (times_x k m a)) (λ i. b / 2 ^ suc i % 2 * pw k m (suc i) a)
-    (λ i l. ap (λ (x : ℕ). x % 2 * pw k m i (times_x k m a)) (shr-shr b 1 i ∙ ap (λ (x : ℕ). b / 2 ^ x) (native.Mathlib.Numerals.one_add i))))
-    ∙ ap (λ (x : ℕ). (x % 2 * a) ⊕ sum n (λ i. b / 2 ^ suc i % 2 * pw k m (suc i) a)) (sym (native.Mathlib.Nat.div_one b))
+    (λ i l. ap (λ (x : ℕ). x % 2 * pw k m i (times_x k m a)) (shr-shr b 1 i ∙ ap (λ (x : ℕ). b / 2 ^ x) (native.Mathlib.Numerals.one-add i))))
+    ∙ ap (λ (x : ℕ). (x % 2 * a) ⊕ sum n (λ i. b / 2 ^ suc i % 2 * pw k m (suc i) a)) (sym (native.Mathlib.Nat.div-one b))
     ∙ sym (sum_first n (λ i. b / 2 ^ i % 2 * pw k m i a))
 
 module _ (k p : ℕ) (degree : Degree (suc k) p) where

@@ -50,9 +50,9 @@ if_below n false a b h g = g
 pub double_add : (a b : ℕ) → (a ⊕ b) * 2 ≡ (a * 2) ⊕ (b * 2)
 unfolding ◌⊕◌
 double_add a b = sym (
-    ap₂ bit_xor (sym (native.Mathlib.Nat.add_zero (a * 2))) (sym (native.Mathlib.Nat.add_zero (b * 2)))
+    ap₂ bit_xor (sym (native.Mathlib.Nat.add-zero (a * 2))) (sym (native.Mathlib.Nat.add-zero (b * 2)))
     ∙ xor_block 1 a b 0 0 (pow_pos 1) (pow_pos 1)
-    ∙ native.Mathlib.Nat.add_zero (bit_xor a b * 2))
+    ∙ native.Mathlib.Nat.add-zero (bit_xor a b * 2))
 
 abbrev pub Additive : (ℕ → ℕ) → Type 0
 Additive f = (a b : ℕ) → f (a ⊕ b) ≡ f a ⊕ f b

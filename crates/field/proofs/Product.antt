@@ -111,13 +111,13 @@ module _ (k m : ℕ) where
 
   pw_pow : (i j : ℕ) → i + j ≤ k → pw i (2 ^ j) ≡ 2 ^ (i + j)
   unfolding pw
-  pw_pow zero j h = ap (λ (x : ℕ). 2 ^ x) (sym (native.Mathlib.Nat.zero_add j))
+  pw_pow zero j h = ap (λ (x : ℕ). 2 ^ x) (sym (native.Mathlib.Nat.zero-add j))
   pw_pow (suc i) j h =
       ap (pw i) (x_pow j (omega arith)) ∙ pw_pow i (suc j) (omega arith)
       ∙ ap (λ (x : ℕ). 2 ^ x) (omega arith)
 
   pw_one : (i : ℕ) → i < suc k → pw i 1 ≡ 2 ^ i
-  pw_one i h = pw_pow i 0 (omega arith) ∙ ap (λ (x : ℕ). 2 ^ x) (native.Mathlib.Nat.add_zero i)
+  pw_one i h = pw_pow i 0 (omega arith) ∙ ap (λ (x : ℕ). 2 ^ x) (native.Mathlib.Nat.add-zero i)
 
   id_add : Additive (λ a. a)
   id_add a b = refl

@@ -64,17 +64,17 @@ module _ (k p : ℕ) where
 
   pub remainder_more : (n i y : ℕ) → y < 2 ^ (k + i) → remainder k p (n + i) y ≡ remainder k p i y
   unfolding remainder step
-  remainder_more zero i y h = ap (λ (x : ℕ). remainder k p x y) (native.Mathlib.Nat.zero_add i)
+  remainder_more zero i y h = ap (λ (x : ℕ). remainder k p x y) (native.Mathlib.Nat.zero-add i)
   remainder_more (suc n) i y h =
-      ap (λ (x : ℕ). remainder k p x y) (native.Mathlib.Nat.suc_add n i)
+      ap (λ (x : ℕ). remainder k p x y) (native.Mathlib.Nat.suc-add n i)
       ∙ ap (remainder k p (n + i)) (step_low (n + i) y (lt_of_lt_of_le h (pow_mono (omega arith))))
       ∙ remainder_more n i y h
 
   remainder_low : (n y : ℕ) → y < 2 ^ k → remainder k p n y ≡ y
   unfolding remainder
   remainder_low n y h =
-      ap (λ (x : ℕ). remainder k p x y) (sym (native.Mathlib.Nat.add_zero n))
-      ∙ remainder_more n 0 y (subst (λ (x : ℕ). y < 2 ^ x) (sym (native.Mathlib.Nat.add_zero k)) h)
+      ap (λ (x : ℕ). remainder k p x y) (sym (native.Mathlib.Nat.add-zero n))
+      ∙ remainder_more n 0 y (subst (λ (x : ℕ). y < 2 ^ x) (sym (native.Mathlib.Nat.add-zero k)) h)
 
   -- ---- a multiple of the modulus: a digit more of the factor q is one more shift of the modulus
   digit_below : (t n q i : ℕ) → i < n → ((t * 2 ^ n) ⊕ q) / 2 ^ i % 2 ≡ q / 2 ^ i % 2
@@ -158,7 +158,7 @@ module _ (k p : ℕ) where
 
     pub remainder_below : (n y : ℕ) → y < 2 ^ (k + n) → remainder k p n y < 2 ^ k
     unfolding remainder step
-    remainder_below zero y h = subst (λ (x : ℕ). y < 2 ^ x) (native.Mathlib.Nat.add_zero k) h
+    remainder_below zero y h = subst (λ (x : ℕ). y < 2 ^ x) (native.Mathlib.Nat.add-zero k) h
     remainder_below (suc n) y h =
         let e : k + suc n ≡ suc (k + n) = omega arith in
         remainder_below n (step n y) (step_lt n y (subst (λ (x : ℕ). y < 2 ^ x) e h))

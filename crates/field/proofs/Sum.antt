@@ -59,14 +59,14 @@ sum_first (suc n) f = ap (λ (x : ℕ). f (suc n) ⊕ x) (sum_first n f) ∙ add
 -- the first n, and the k after them
 sum_split : (k n : ℕ) (f : ℕ → ℕ) → sum (n + k) f ≡ sum k (λ i. f (n + i)) ⊕ sum n f
 unfolding sum
-sum_split zero n f = ap (λ (x : ℕ). sum x f) (native.Mathlib.Nat.add_zero n) ∙ sym (zero_add (sum n f))
+sum_split zero n f = ap (λ (x : ℕ). sum x f) (native.Mathlib.Nat.add-zero n) ∙ sym (zero_add (sum n f))
 sum_split (suc k) n f =
-    ap (λ (x : ℕ). sum x f) (native.Mathlib.Nat.add_suc n k) ∙ ap (λ (x : ℕ). f (n + k) ⊕ x) (sum_split k n f)
+    ap (λ (x : ℕ). sum x f) (native.Mathlib.Nat.add-suc n k) ∙ ap (λ (x : ℕ). f (n + k) ⊕ x) (sum_split k n f)
     ∙ sym (add_assoc (f (n + k)) (sum k (λ i. f (n + i))) (sum n f))
 
 pub sum_nest : (m c : ℕ) (f : ℕ → ℕ) → sum (c * m) f ≡ sum m (λ j. sum c (λ i. f (c * j + i)))
 unfolding sum
-sum_nest zero c f = ap (λ (x : ℕ). sum x f) (native.Mathlib.Nat.mul_zero c)
+sum_nest zero c f = ap (λ (x : ℕ). sum x f) (native.Mathlib.Nat.mul-zero c)
 sum_nest (suc m) c f =
     let e : c * suc m ≡ c * m + c = omega arith in
     ap (λ (x : ℕ). sum x f) e ∙ sum_split c (c * m) f ∙ ap (λ (x : ℕ). sum c (λ i. f (c * m + i)) ⊕ x) (sum_nest m c f)

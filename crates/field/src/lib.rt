@@ -1,4 +1,6 @@
 // Arithmetic of the field of 256 elements.
+#![tactic(auto)]
+
 mod table;
 
 ghost use Rattle.std.specs.Prelude.{◌≡◌};

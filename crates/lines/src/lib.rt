@@ -1,5 +1,7 @@
 // The lines of text that the bank program prints, newline included: specs/Lines.antt. Each function puts a line into lent bytes from
 // a place on, as far as there is room, and gives the place after it, as the functions of the crate `text` do.
+#![tactic(auto)]
+
 ghost use Rattle.answer.specs.Answer.{in_chips, in_card, refused, refused_card};
 ghost use Rattle.text.specs.Put.{Put};
 ghost use Rattle.lines.specs.Lines.{count_line, block_line, totals_line, refused_line, SoundPut};

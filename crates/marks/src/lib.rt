@@ -1,6 +1,8 @@
 // The mark record: a card mark and up to two chip marks, placed and lifted one at a time.
 //
 // Any value that the struct can hold may arrive, and any number may be asked for. A call that is refused hands the record back as it came.
+#![tactic(auto)]
+
 mod calls;
 mod lawful;
 
@@ -12,14 +14,14 @@ ghost use Rattle.marks.specs.Mark.{MarkDone};
 ghost use Rattle.marks.specs.declared.CardMark.TheVariants.{None, Card};
 
 // A choice of its own: no card number stands for "none".
-#[derive(Drop)]
+#[derive(Clone, Copy)]
 pub enum CardMark {
     None,
     Card(u8),
 }
 
 // The chip places are in order of placing; only the first `count` of them are in use.
-#[derive(Drop)]
+#[derive(Clone, Copy)]
 pub struct Marks {
     pub card: CardMark,
     pub count: u8,
@@ -28,7 +30,7 @@ pub struct Marks {
 }
 
 // What is asked for, as it is asked: a number that is no position and no card is refused, and never cut to a byte.
-#[derive(Drop)]
+#[derive(Clone, Copy)]
 pub enum MarkCall {
     PlaceChip(u32),
     LiftChip(u32),
@@ -37,7 +39,7 @@ pub enum MarkCall {
 }
 
 // The answer of a call that places or lifts a mark, and the record after it.
-#[derive(Drop)]
+#[derive(Clone, Copy)]
 pub struct Marking {
     pub answer: answer::Outcome,
     pub marks: Marks,

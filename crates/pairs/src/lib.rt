@@ -1,4 +1,6 @@
 // Words of eight bytes as polynomials, and pairs of bytes in a word: their values at x and at x squared, each by the field's modulus.
+#![tactic(auto)]
+
 ghost use Rattle.std.specs.Prelude.{◌≡◌, ◌/◌, ◌%◌, ◌^◌};
 ghost use Rattle.pairs.specs.Words.{byte_of, at_both, reduced};
 

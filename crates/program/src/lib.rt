@@ -1,4 +1,6 @@
 // What the bank program prints of its input: 4 mark bytes, then a bank.
+#![tactic(auto)]
+
 ghost use Rattle.std.specs.Prelude.{◌≡◌, ◌≤◌, length};
 ghost use Rattle.marks.specs.Marks.{marks_cause};
 ghost use Rattle.reading.specs.Reading.{reading_answer};

@@ -1,10 +1,12 @@
 // What a reading of a block says, and how many further chips are allowed with no card marked. The definitions are in specs/, and what
 // follows of them in proofs/.
+#![tactic(auto)]
+
 ghost use Rattle.std.specs.Prelude.{◌≡◌};
 ghost use Rattle.reading.specs.Allowed.{further};
 
 // How a block was corrected, n being the number of bytes changed.
-#[derive(Drop)]
+#[derive(Clone, Copy)]
 pub enum Kind {
     Clean,
     // n
@@ -13,7 +15,7 @@ pub enum Kind {
     OneCard(u8, u8),
 }
 
-#[derive(Drop)]
+#[derive(Clone, Copy)]
 pub enum Reading {
     Corrected(Kind),
     // 11: more than one lawful block differs from the one read as the marks allow. The card is the lowest of which a change, with one of

@@ -9,7 +9,7 @@ use answer::Outcome;
 use reading::{Kind, Reading};
 
 // Byte 4, byte 5, and the bit of byte 7: 1 where the command was done, 2 where it was refused.
-#[derive(Drop)]
+#[derive(Clone, Copy)]
 pub(crate) struct Told {
     pub answer: u8,
     pub detail: u8,

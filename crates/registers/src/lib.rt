@@ -2,6 +2,8 @@
 // output and window. Document 02, order 1.
 //
 // The registers go in and come back by value. Bytes 8 to 11 are the mark record itself, so that nothing has to agree with it.
+#![tactic(auto)]
+
 mod answers;
 mod bits;
 
@@ -14,28 +16,28 @@ use answer::Outcome;
 use marks::{MarkCall, Marks};
 
 // Bytes 0 to 7, and the mark record, which is bytes 8 to 11.
-#[derive(Drop)]
+#[derive(Clone, Copy)]
 pub struct Registers {
     pub front: [u8; 8],
     pub marks: Marks,
 }
 
 // The write call's own answer, and the registers after it.
-#[derive(Drop)]
+#[derive(Clone, Copy)]
 pub struct Written {
     pub answer: Outcome,
     pub registers: Registers,
 }
 
 // What a read call finds: the byte, or the number of the refusal.
-#[derive(Drop)]
+#[derive(Clone, Copy)]
 pub enum Value {
     Byte(u8),
     Refused(u8),
 }
 
 // What a command asks of the library.
-#[derive(Drop)]
+#[derive(Clone, Copy)]
 pub enum Command {
     Get(usize),
     Patrol(usize),

@@ -1,4 +1,6 @@
 // The per-thousand figure, and the rounding that it takes: specs/Rounding.antt, specs/PerThousand.antt.
+#![tactic(auto)]
+
 ghost use Rattle.rounding.specs.Rounding.{Rounds};
 ghost use Rattle.rounding.specs.PerThousand.{PerThousand};
 

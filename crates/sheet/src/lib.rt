@@ -1,11 +1,13 @@
 // The text that the tables program prints: the powers of g, the logarithms and the labels, each number worked out by products in eight rounds.
+#![tactic(auto)]
+
 ghost use Rattle.std.specs.Prelude.{◌≡◌, ◌++◌, ◌+◌, ◌≤◌};
 ghost use Rattle.field.specs.Field.{power};
 ghost use Rattle.text.specs.Put.{Put};
 ghost use Rattle.sheet.specs.Sheet.{log, number_lines, SheetDone};
 ghost use Rattle.sheet.specs.Parts.{values};
 
-#[derive(Drop)]
+#[derive(Clone, Copy)]
 enum Table {
     Powers,
     Logs,

@@ -1,4 +1,6 @@
 // Fault slips: one reading of one block in a few bytes, written into a lent slice at an offset, and read from one. Document 02, order 8.
+#![tactic(auto)]
+
 mod limits;
 mod make;
 
@@ -10,7 +12,7 @@ ghost use Rattle.slip.specs.Limits.{limits_of, answer_told};
 use reading::{Kind, Reading};
 
 // What the writer says.
-#[derive(Drop)]
+#[derive(Clone, Copy)]
 pub enum Wrote {
     // The offset after the slip.
     Next(usize),
@@ -19,7 +21,7 @@ pub enum Wrote {
 }
 
 // What the reader finds.
-#[derive(Drop)]
+#[derive(Clone, Copy)]
 pub enum Found {
     // The block number, its reading, and the offset after the slip.
     Slip(usize, Reading, usize),

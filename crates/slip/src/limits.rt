@@ -3,7 +3,7 @@ ghost use Rattle.std.specs.Prelude.{◌≡◌, true, ◌↔◌, ◌≤◌};
 ghost use Rattle.slip.specs.Limits.{limits_of};
 
 // How many bytes stand behind a map, and the least and the most that each may be.
-#[derive(Drop)]
+#[derive(Clone, Copy)]
 pub(crate) struct Limits {
     pub size: usize,
     pub least: [u8; 5],

@@ -9,7 +9,7 @@ use super::limits;
 use reading::{Kind, Reading};
 
 // The first `size` of these bytes.
-#[derive(Drop)]
+#[derive(Clone, Copy)]
 pub(crate) struct Made {
     pub bytes: [u8; 6],
     pub size: usize,

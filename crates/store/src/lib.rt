@@ -3,6 +3,8 @@
 // The record goes into the output with bytes 34 and 35 as 0 and card 4 as what makes every row 0: the record's chip sums. The two label
 // sums of that block are then those of card 4's reduced matrix, and bytes 34 and 35 are the two unknowns that make them 0; each is added
 // to card 4 as well, so that its row stays 0. Nothing of the output is read before it is written.
+#![tactic(auto)]
+
 ghost use Rattle.std.specs.Prelude.{◌≡◌, ℕ, ◌+◌, ◌<◌, ◌≤◌, length};
 ghost use Rattle.answer.specs.Answer.{outcome_answer};
 ghost use Rattle.field.specs.Field.{◌⊕◌, ◌·◌};

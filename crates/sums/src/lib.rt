@@ -8,6 +8,8 @@
 // (crate pairs).
 //
 // What holds for the built-in labels alone is in built_in.rt.
+#![tactic(auto)]
+
 ghost use Rattle.std.specs.Prelude.{◌≡◌, ℕ, ◌+◌, ◌*◌, ◌%◌, ◌<◌, ◌≤◌, ◌^◌, length};
 ghost use Rattle.field.specs.Field.{sum};
 ghost use Rattle.code.specs.Block.{byte, position};
@@ -18,7 +20,7 @@ pub mod built_in;
 mod words;
 
 // The row of chip i in byte i of `low`, of chip 8 in `high`; the sum of label times byte, and of label squared times byte.
-#[derive(Drop)]
+#[derive(Clone, Copy)]
 pub struct Sums {
     pub low: u64,
     pub high: u8,

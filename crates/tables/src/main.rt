@@ -1,5 +1,7 @@
 // The tables program: on standard output the powers of g, the logarithms and the labels. It reads nothing, and only writes what the crate
 // `sheet` says.
+#![tactic(auto)]
+
 use libc::STDOUT_FILENO;
 
 fn main() {

@@ -1,5 +1,7 @@
 // Text put into lent bytes from a place on, as far as there is room; each function gives the place after it: specs/Put.antt. Where there is
 // no room, nothing is written.
+#![tactic(auto)]
+
 ghost use Rattle.std.specs.Prelude.{◌≡◌, ◌++◌};
 ghost use Rattle.text.specs.Text.{ascii, decimal};
 ghost use Rattle.text.specs.Put.{Put};

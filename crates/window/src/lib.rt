@@ -2,6 +2,8 @@
 //
 // The oldest position comes first, and 255 stands where there is none yet, so that any 64 bytes are a window and nothing has to be kept
 // in step with a count.
+#![tactic(auto)]
+
 ghost use Rattle.std.specs.Prelude.{◌≡◌, ◌&&◌, not, ◌++◌, ◌+◌, ◌/◌, ◌≤◌, min, length, take, drop, replicate};
 ghost use Rattle.base.specs.Base.{least};
 ghost use Rattle.answer.specs.Answer.{outcome_answer};
@@ -16,7 +18,7 @@ use change::Positions;
 use marks::{CardMark, Marks};
 
 // A position to mark, or none; or the number of the refusal.
-#[derive(Drop)]
+#[derive(Clone, Copy)]
 pub enum Proposal {
     Chip(u8),
     Nothing,
@@ -49,8 +51,8 @@ fn move_down(w: &mut [u8], to: usize, n: usize)
     let from_end = from + 16;
     let to_end = to + 16;
     let mut piece = [0u8; 16];
-    bytes::copy(&w[from..from_end], &mut piece);
-    bytes::copy(&piece, &mut w[to..to_end]);
+    piece.copy_from_slice(&w[from..from_end]);
+    w[to..to_end].copy_from_slice(&piece);
 }
 
 // Sixteen bytes and eleven behind them; of these the sixteen after the first n stay.
@@ -59,10 +61,10 @@ fn move_last(last: &mut [u8], at: &[u8], n: usize)
     ensures { last.new ≡ added last.old (take n at.now) }
 {
     let mut joined = [0u8; 27];
-    bytes::copy(last, &mut joined[..16]);
-    bytes::copy(at, &mut joined[16..]);
+    joined[..16].copy_from_slice(last);
+    joined[16..].copy_from_slice(at);
     let end = n + 16;
-    bytes::copy(&joined[n..end], last);
+    last.copy_from_slice(&joined[n..end]);
 }
 
 // The window and the eleven bytes one after the other; of these the 64 after the first n stay. From the front, so that nothing is written

@@ -5,31 +5,12 @@ use native.Mathlib.Omega.{arith}
 use Rattle.field.specs.Field.{◌·◌}
 use Rattle.field.proofs.Inverses.{in_table, in_table_zero, in_table_inverse}
 use borrow.Author.Rules.{rules}
-use Rattle.field.proofs.invert.Statement.{statement}
-use Rattle.field.proofs.invert.Tie as tie
+use Rattle.field.proofs.invert.Goals as goal
 
-mul-k : tie.Need-overflow-mul-k
-mul-k c = search rules
-
-inverses-from-requires : tie.Need-inverses-from-requires
-inverses-from-requires c κs = search rules
-
-cast-result : tie.Need-overflow-cast-result
-cast-result c = search rules
-
-shr-result : tie.Need-overflow-shr-result
-shr-result c = search rules
-
-cast-result-2 : tie.Need-overflow-cast-result-2
-cast-result-2 c = search rules
-
-returns : tie.Need-returns
+pub returns : goal.returns
 unfolding in_table
 returns c =
     let a : ℕ = c.before.args.a in
     let is : in_table a ≡ c.inverses_from.result / 2 ^ (8 * (a % 8)) % 256 =
     ap (λ (w : ℕ). w / 2 ^ (8 * (a % 8)) % 256) (sym c.inverses_from.ensures) in
     (λ z. sym is ∙ ap in_table z ∙ in_table_zero, λ ne. subst (λ (x : ℕ). a · x ≡ 1) is (in_table_inverse a (omega arith) ne))
-
-pub invert_spec : {M : Type 1} → statement M
-invert_spec = tie.close (tie.spec mul-k inverses-from-requires cast-result shr-result cast-result-2 returns)
