@@ -154,7 +154,7 @@ module _ (w : ℕ) (◌·◌ : ℕ → ℕ → ℕ) (F : IsField w ◌·◌) whe
 
   pub values_below : (c : ℕ → ℕ) (ps : List ℕ) (s : ℕ → ℕ) → Below w (values ◌·◌ F.inv c ps s)
   unfolding values
-  values_below c [] s q = lib.Pow.pow-pos w
+  values_below c [] s q = lib.Pow.pow_pos w
   values_below c (p ∷ ps) s q =
       if_below w (eqb q p) (quot ◌·◌ F.inv (s 0 ⊕ dot ◌·◌ 0 c ps (later c p ps s)) (c p)) (later c p ps s q)
       (F.below (s 0 ⊕ dot ◌·◌ 0 c ps (later c p ps s)) (F.inv (c p))) (values_below (next ◌·◌ c p) ps (step ◌·◌ (c p) s) q)
@@ -218,7 +218,7 @@ module _ (w : ℕ) (◌·◌ : ℕ → ℕ → ℕ) (F : IsField w ◌·◌) whe
   pub independent : (r : ℕ) (c : ℕ → ℕ) (ps : List ℕ) (v : ℕ → ℕ) → Few r ps → Below w c → Below w v → Free ◌·◌ c ps → Solves ◌·◌ r c ps v (λ t. 0)
       → (q : ℕ) → In q ps → v q ≡ 0
   independent r c ps v few hc hv free h q i =
-      (only r c ps v (λ t. 0) few hc hv free h).1 q i ∙ sym ((only r c ps (λ p. 0) (λ t. 0) few hc (λ p. lib.Pow.pow-pos w) free none).1 q i)
+      (only r c ps v (λ t. 0) few hc hv free h).1 q i ∙ sym ((only r c ps (λ p. 0) (λ t. 0) few hc (λ p. lib.Pow.pow_pos w) free none).1 q i)
     where
       none : (t : ℕ) → t < r → dot ◌·◌ t c ps (λ p. 0) ≡ 0
       none t l = over_zero ps (λ p. squared ◌·◌ t (c p) · 0) (λ p i. mul_zero w ◌·◌ F (squared ◌·◌ t (c p)))

@@ -84,10 +84,10 @@ module _ (ls : List ℕ) (ok : LabelSet ls) (ρ σ : ℕ → ℕ) (hρ : Below 8
       z_below : Below 8 z
       z_below p = add_lt 8 (v p) (if (eqb (p / 9) 0) (row v (p % 9)) 0) (values_below 8 ◌·◌ field (entry ls 0) pair need p)
           (if_below 8 (eqb (p / 9) 0) (row v (p % 9)) 0
-          (sum_below 8 5 (λ k. v (position k (p % 9))) (λ k. values_below 8 ◌·◌ field (entry ls 0) pair need (position k (p % 9)))) (lib.Pow.pow-pos 8))
+          (sum_below 8 5 (λ k. v (position k (p % 9))) (λ k. values_below 8 ◌·◌ field (entry ls 0) pair need (position k (p % 9)))) (lib.Pow.pow_pos 8))
 
       below : Below 8 (λ p. y₀ p ⊕ z p)
-      below p = add_lt 8 (y₀ p) (z p) (if_below 8 (eqb (p / 9) 0) (ρ (p % 9)) 0 (hρ (p % 9)) (lib.Pow.pow-pos 8)) (z_below p)
+      below p = add_lt 8 (y₀ p) (z p) (if_below 8 (eqb (p / 9) 0) (ρ (p % 9)) 0 (hρ (p % 9)) (lib.Pow.pow_pos 8)) (z_below p)
 
       rows : (i : ℕ) → i < 9 → row (λ p. y₀ p ⊕ z p) i ≡ ρ i
       rows i l =

@@ -64,7 +64,7 @@ module _ (w : ℕ) (◌·◌ : ℕ → ℕ → ℕ) (F : IsField w ◌·◌) (ls
 
       made_below : Below w made
       unfolding made
-      made_below q = if_below w (is_in q ps) (b q ⊕ x q) 0 (add_lt w (b q) (x q) (b_below q) (x_below q)) (lib.Pow.pow-pos w)
+      made_below q = if_below w (is_in q ps) (b q ⊕ x q) 0 (add_lt w (b q) (x q) (b_below q) (x_below q)) (lib.Pow.pow_pos w)
 
       made_off : (p : ℕ) → (In p ps → ⊥) → made p ≡ 0
       unfolding made

@@ -27,7 +27,7 @@ module _ (ls : List ℕ) (ok : LabelSet ls) (s : Sums)
     where
       at : Dec (i < 9) → byte (rows_of s) i < 2 ^ 8
       at (yes l) = nine_at (byte_of s.low) s.high (λ i x. x < 2 ^ 8) (λ i l. byte_of_below s.low i) high i l
-      at (no n) = subst (λ (x : ℕ). x < 2 ^ 8) (sym (get_or-eq_default (rows_of s) 0 {n = i} (omega (arith, n)))) (lib.Pow.pow-pos 8)
+      at (no n) = subst (λ (x : ℕ). x < 2 ^ 8) (sym (get_or-eq_default (rows_of s) 0 {n = i} (omega (arith, n)))) (lib.Pow.pow_pos 8)
 
   -- the label sums, by the number of the rule
   by_rule : ℕ → ℕ
