@@ -25,7 +25,7 @@ use Rattle.field.proofs.Xor.{add_self, add_lt, add_shr, add_mod, swap}
 use Rattle.field.proofs.Linear.{bit_lt, bit_ind, scale_add, Additive, at_zero, additive_ext}
 use Rattle.field.proofs.Remainder.{times_pow_add}
 use Rattle.field.proofs.Gf256.{field}
-use Rattle.field.proofs.Ring.{add_mul, zero-mul as zero_times}
+use Rattle.field.proofs.Ring.{add_mul, zero_mul as zero_times}
 use Rattle.field.proofs.Sum.{sum_ext}
 use Rattle.field.proofs.Squares.{square_add}
 use Rattle.code.specs.Block.{byte}
