@@ -24,7 +24,7 @@ use Rattle.base.proofs.Tests.{same, lt_or_le, or_no}
 use Rattle.base.proofs.Those.{those_ext, those_none, those_split, those_snoc, two_listed, between, within, between_in, between_out}
 use Rattle.base.proofs.Tally.{one_le}
 use Rattle.field.specs.Field.{◌⊕◌}
-use Rattle.field.proofs.Xor.{add_zero, zero-add, add_self, sums}
+use Rattle.field.proofs.Xor.{add_zero, zero_add, add_self, sums}
 use Rattle.code.specs.Block.{differing}
 use Rattle.change.specs.Change.{adds, applied, nonzero, nonzero_at, WellFormed, before, after, row_test, places, ordered, positions, filled, Listed}
 use Rattle.change.specs.declared.Change.{Change}
@@ -50,7 +50,7 @@ module _ (d : Change) (w : WellFormed d) (o : d.p ≤ d.q) where
       both : (r ≡ d.p) ⊎ (r ≢ d.p) → (r ≡ d.q) ⊎ (r ≢ d.q) → (d.f ≡ 0) ⊎ ((d.q < 45) × (d.q / 9 ≢ d.card) × (d.q ≢ d.p))
           → nonzero (if (eqb r d.p) d.e 0 ⊕ if (eqb r d.q) d.f 0) ≡ (eqb r d.p && nonzero d.e) || (eqb r d.q && nonzero d.f)
       both (inl a) (inr c) s = rw (eq-eqb r d.p a, ne_eqb r d.q c, add_zero d.e) (sym (or_no (nonzero d.e)))
-      both (inr a) (inl c) s = rw (ne_eqb r d.p a, eq-eqb r d.q c, zero-add d.f) refl
+      both (inr a) (inl c) s = rw (ne_eqb r d.p a, eq-eqb r d.q c, zero_add d.f) refl
       both (inr a) (inr c) s = rw (ne_eqb r d.p a, ne_eqb r d.q c, add_self 0) refl
       both (inl a) (inl c) (inr i) = absurd (i.2 (sym c ∙ a))
       both (inl a) (inl c) (inl z) = rw (eq-eqb r d.p a, eq-eqb r d.q c, z, add_zero d.e) (sym (or_no (nonzero d.e)))
