@@ -4,7 +4,6 @@ use Prim.Native.Nat.{ℕ, ◌*◌, ◌%◌, ◌^◌}
 use native.Mathlib.Omega.{arith}
 use lib.Pow.{shl_exact}
 use Rattle.field.specs.Field.{◌⊕◌}
-use borrow.Author.Rules.{rules}
 use Rattle.sums.proofs.both.Goals as goal
 
 pub returns : goal.returns

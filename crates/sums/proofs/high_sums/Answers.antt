@@ -3,7 +3,6 @@ use native.Mathlib.Omega.{arith}
 use Rattle.field.specs.Field.{◌⊕◌}
 use Rattle.code.specs.Block.{byte}
 use Rattle.sums.proofs.Begun.{down, beyond, next_sums}
-use borrow.Author.Rules.{rules}
 use Rattle.sums.proofs.high_sums.Goals as goal
 
 pub returns : goal.returns

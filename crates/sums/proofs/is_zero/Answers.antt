@@ -1,6 +1,5 @@
 -- A word made by "or" is 0 exactly where its parts are.
 use Rattle.sums.proofs.Zero.{or_zero}
-use borrow.Author.Rules.{rules}
 use Rattle.sums.proofs.is_zero.Goals as goal
 
 pub returns : goal.returns

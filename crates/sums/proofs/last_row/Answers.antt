@@ -1,7 +1,6 @@
 -- Five bytes, one of each card.
 use Rattle.field.specs.Field.{◌⊕◌}
 use Rattle.sums.proofs.Cards.{five_bytes}
-use borrow.Author.Rules.{rules}
 use Rattle.sums.proofs.last_row.Goals as goal
 
 pub returns : goal.returns

@@ -1,7 +1,6 @@
 -- The sum of the five cards' words has the rows in its bytes.
 use Rattle.field.specs.Field.{◌⊕◌}
 use Rattle.sums.proofs.Cards.{five_words}
-use borrow.Author.Rules.{rules}
 use Rattle.sums.proofs.low_rows.Goals as goal
 
 pub returns : goal.returns

@@ -1,7 +1,6 @@
 -- The four cards' words, summed.
 use Rattle.field.specs.Field.{◌⊕◌}
 use Rattle.sums.proofs.Begun.{four_sums}
-use borrow.Author.Rules.{rules}
 use Rattle.sums.proofs.low_sums.Goals as goal
 
 pub returns : goal.returns

@@ -9,7 +9,6 @@ use Rattle.field.specs.Field.{sum}
 use Rattle.pairs.specs.Words.{byte_of, spread}
 use Rattle.sums.proofs.Cards.{nine_at}
 use Rattle.sums.proofs.Syndrome.{built_in_below, pair_once, pair_squared, from_zero}
-use borrow.Author.Rules.{rules}
 use Rattle.sums.proofs.of_block.Goals as goal
 
 pub returns-then-block-ne45 : goal.returns-then-block-ne45

@@ -8,7 +8,6 @@ use Rattle.sums.specs.Sums.{chip_sum, begun}
 use Rattle.sums.proofs.Cards.{nine_at}
 use Rattle.sums.proofs.Begun.{begun_below}
 use Rattle.sums.proofs.Syndrome.{built_in_below, pair_once, pair_squared}
-use borrow.Author.Rules.{rules}
 use Rattle.sums.proofs.of_record.Goals as goal
 
 pub returns-then-rec-ne34 : goal.returns-then-rec-ne34

@@ -1,6 +1,5 @@
 -- Each part is a byte of the word.
 use Rattle.pairs.specs.Words.{byte_of}
-use borrow.Author.Rules.{rules}
 use Rattle.sums.proofs.rows.Goals as goal
 
 pub returns : goal.returns

@@ -2,7 +2,6 @@
 use native.Mathlib.Omega.{arith}
 use Rattle.code.specs.Block.{byte}
 use Rattle.sums.proofs.Begun.{down, beyond}
-use borrow.Author.Rules.{rules}
 use Rattle.sums.proofs.third_card.Goals as goal
 
 pub returns : goal.returns

@@ -5,7 +5,6 @@ use native.Mathlib.Omega.{arith}
 use Rattle.field.specs.Field.{◌⊕◌}
 use Rattle.pairs.specs.Words.{at_both}
 use Rattle.sums.proofs.Next.{first_gathered}
-use borrow.Author.Rules.{rules}
 use Rattle.sums.proofs.built_in.first_card.Goals as goal
 
 pub returns : goal.returns

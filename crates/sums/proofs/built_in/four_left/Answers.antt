@@ -1,10 +1,6 @@
 use mathlib.Core.Path.{◌≡◌, refl}
-use Prim.Native.Nat.{◌-◌, ◌*◌, ◌≤◌}
 use native.Mathlib.Omega.{arith}
-use lib.ListN.{take, drop}
-use Rattle.code.specs.Block.{Lawful}
-use Rattle.code.specs.Labels.{built_in}
-use Rattle.sums.proofs.Left.{Digits, none_passed, one_passed, four_below}
+use Rattle.sums.proofs.Left.{none_passed, one_passed, four_below}
 use Rattle.sums.proofs.built_in.four_left.Goals as goal
 
 pub returns-then-b-ne180 : goal.returns-then-b-ne180

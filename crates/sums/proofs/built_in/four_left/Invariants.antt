@@ -1,11 +1,9 @@
 -- Invariant: the digits below k are those of the blocks passed.
-use mathlib.Core.Path.{◌≡◌, refl}
 use Prim.Native.Nat.{◌-◌, ◌*◌, ◌≤◌}
-use native.Mathlib.Omega.{arith}
 use lib.ListN.{take, drop}
 use Rattle.code.specs.Block.{Lawful}
 use Rattle.code.specs.Labels.{built_in}
-use Rattle.sums.proofs.Left.{Digits, none_passed, one_passed, four_below}
+use Rattle.sums.proofs.Left.{Digits}
 use Rattle.sums.proofs.built_in.four_left.Given as goal
 
 abbrev pub invariant-loop-k : goal.invariant-loop-k

@@ -5,7 +5,6 @@ use native.Mathlib.Omega.{arith}
 use Rattle.field.specs.Field.{◌⊕◌}
 use Rattle.code.specs.Block.{byte}
 use Rattle.sums.proofs.Whole.{held, held_first, cards_are}
-use borrow.Author.Rules.{rules}
 use Rattle.sums.proofs.built_in.gather_at.Goals as goal
 
 pub returns : goal.returns

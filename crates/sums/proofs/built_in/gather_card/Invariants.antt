@@ -1,12 +1,10 @@
 -- Invariant: the word is the sum of byte times word over the places passed. A byte times a small word fits.
-use mathlib.Core.Path.{◌≡◌, refl, sym, ap, ◌∙◌, subst}
-use Prim.Native.Nat.{ℕ, ◌+◌, ◌≤◌, ◌<◌, ◌-◌, ◌*◌}
-use native.Mathlib.Omega.{arith}
+use mathlib.Core.Path.{◌≡◌}
+use Prim.Native.Nat.{◌+◌, ◌≤◌, ◌-◌, ◌*◌}
 use lib.ListN.{get_or}
-use Rattle.field.specs.Field.{sum, ◌⊕◌}
+use Rattle.field.specs.Field.{sum}
 use Rattle.code.specs.Labels.{built_in}
-use Rattle.pairs.specs.Words.{spread, gathered}
-use Rattle.pairs.proofs.Points.{one_more, spread_small, word_fits}
+use Rattle.pairs.specs.Words.{spread}
 use Rattle.sums.proofs.built_in.gather_card.Given as goal
 
 abbrev pub invariant-loop-i : goal.invariant-loop-i

@@ -7,7 +7,6 @@ use Rattle.code.specs.Block.{byte}
 use Rattle.sums.specs.Sums.{begun}
 use Rattle.sums.proofs.Whole.{Holds, Word, cards_are}
 use Rattle.sums.proofs.Begun.{down, beyond, begun_below, front_word, card_word, next_word}
-use borrow.Author.Rules.{rules}
 use Rattle.sums.proofs.built_in.gather_record.Goals as goal
 
 pub returns : goal.returns

@@ -9,7 +9,6 @@ use Rattle.code.specs.Labels.{built_in}
 use Rattle.sums.proofs.Whole.{held, held_first}
 use Rattle.sums.proofs.Syndrome.{built_in_below, once_of, squared_of}
 use Rattle.sums.proofs.Left.{or_left, or_right, zero_exactly}
-use borrow.Author.Rules.{rules}
 use Rattle.sums.proofs.built_in.left_at.Goals as goal
 
 pub returns : goal.returns

@@ -1,7 +1,6 @@
 -- Both points' values of the gathered word.
 use mathlib.Core.Path.{ap, ◌∙◌}
 use Rattle.pairs.specs.Words.{at_both}
-use borrow.Author.Rules.{rules}
 use Rattle.sums.proofs.built_in.on_card.Goals as goal
 
 pub returns : goal.returns
