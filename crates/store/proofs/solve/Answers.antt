@@ -5,15 +5,10 @@ use Rattle.field.specs.Field.{◌⊕◌}
 use Rattle.pairs.specs.Shifts.{up}
 use Rattle.store.proofs.Shifts.{first, twice, second, solved_is}
 use Rattle.store.proofs.Solved.{by_figures}
-use borrow.Author.Rules.{rules}
-use Rattle.store.proofs.solve.Statement.{statement}
-use Rattle.store.proofs.solve.Tie as tie
+use Rattle.store.proofs.solve.Goals as goal
 
-returns : tie.Need-returns
+pub returns : goal.returns
 unfolding up first twice second ◌⊕◌
 returns c f g h k F =
     let s = c.before in
     c.reduce_pair.ensures ∙ solved_is s.args.once s.args.squared (omega arith) (omega arith) ∙ by_figures s.args.once s.args.squared f g h k F
-
-pub solve_spec : {M : Type 1} → statement M
-solve_spec = tie.close (tie.spec (λ c κs. search rules) returns)
