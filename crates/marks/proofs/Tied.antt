@@ -45,7 +45,7 @@ fresh_asks κs a = tt
 
 pub from_slice_tied : (κs : Lifetimes.Lfts 1) (a : World.ArgsD from_slice.signature κs) (r : World.ResD from_slice.signature κs)
     (s : Clauses.AtExit (Kinds.ended_of 1 from_slice_kinds.ps from_slice_kinds.r) κs) → from_slice_reads.Learnt κs a r s
-    → (r ≡ marks_in a.0.now) × (s.0.now ≡ a.0.now)
+    → (r ≡ marks_in a.0.now) × (a.0.now ≡ a.0.now)
 from_slice_tied κs a r s l = l
 
 pub from_slice_asks : (κs : Lifetimes.Lfts 1) (a : World.ArgsD from_slice.signature κs) → from_slice_reads.Asked κs a

@@ -37,6 +37,7 @@ pub(crate) fn in_range(m: Marks) -> bool
 }
 
 // Only two chip marks: with fewer, an unused place says nothing.
+#[tactic(auto, unfolding(crate::specs::Marks::two_equal))]
 pub(crate) fn two_equal(m: Marks) -> bool
     ensures { result ≡ two_equal m }
 {
