@@ -20,7 +20,6 @@ use Rattle.base.proofs.Tests.{both, same}
 use Rattle.field.specs.Field.{sum, ◌⊕◌, ◌·◌}
 use Rattle.field.proofs.Xor.{add_zero, sums}
 use Rattle.field.proofs.Sum.{sum_add, sum_ext, sum_zero, sum_one}
-use Rattle.field.proofs.Squares.{squared}
 use Rattle.code.specs.Block.{byte, position, block_of}
 use Rattle.code.specs.Labels.{entry}
 use Rattle.code.specs.Reach.{Beside, Reached}

@@ -1,10 +1,10 @@
 -- A turn of the search over cards, with marked chips.
 --
---   sums_by                   the reduced sums, as the code adds them
+--   sums_by, sums_of_pair     the reduced sums, as the code adds them; and as it has both from one pair
 --   few_enough, too_many      the test of the chip kind, as the code makes it
 --   unfit, found_chips, found_card, second_card   what card j adds: nothing, a block by chips, a first or a second block that is not
 --   card_answers              the answer, where one card reaches a block
-use mathlib.Core.Path.{◌≡◌, sym, ap, ◌∙◌, subst}
+use mathlib.Core.Path.{◌≡◌, refl, sym, ap, ◌∙◌, subst}
 use mathlib.Core.Bool.{Bool, true, false}
 use mathlib.Core.List.{List}
 use Prim.Native.Nat.{ℕ, ◌+◌, ◌<◌, ◌≤◌}
@@ -14,14 +14,15 @@ use borrow.Author.Tests.{leb-true, leb-false}
 use Rattle.base.specs.Base.{Few}
 use Rattle.field.specs.Field.{◌⊕◌}
 use Rattle.answer.specs.Answer.{in_card}
-use Rattle.code.specs.Labels.{LabelSet}
+use Rattle.code.specs.Labels.{built_in, LabelSet}
 use Rattle.code.specs.Reach.{rules, Beside, keep, Reached}
 use Rattle.code.proofs.Few.{keep_beside}
 use Rattle.marks.specs.Marks.{marked_chips, LawfulMarks}
 use Rattle.marks.specs.declared.CardMark.TheVariants.{None}
 use Rattle.marks.specs.declared.Marks.{Marks}
 use Rattle.marks.proofs.Laws.{chips_counted}
-use Rattle.pairs.specs.Words.{spread, gathered, at_point}
+use Rattle.pairs.specs.Words.{byte_of, at_both, spread, gathered, at_point}
+use Rattle.pairs.proofs.Fold.{once_from, squared_from}
 use Rattle.sums.specs.Sums.{rows_of, ReducedSums}
 use Rattle.sums.specs.declared.Sums.{Sums}
 use Rattle.change.specs.Change.{applied, weight}
@@ -47,6 +48,14 @@ sums_by ls ok s j hj words w z ez u a c t₁ t₂ eu ea ec e₁ e₂ b k =
     let h = sums_at ls ok s j hj words w u (eu ∙ ap (λ (y : List ℕ). gathered y words j) ez) b k in
     subst (λ (x : ℕ). ReducedSums ls b j x t₂) (sym (e₁ ∙ ap (λ (x : ℕ). s.once ⊕ x) ea))
     (subst (ReducedSums ls b j (s.once ⊕ at_point 2 8 u)) (sym (e₂ ∙ ap (λ (x : ℕ). s.squared ⊕ x) ec)) h)
+
+pub sums_of_pair : (ls : List ℕ) → LabelSet ls → ls ≡ built_in → (s : Sums) (j : ℕ) → j < 5 → (z : List ℕ) → z ≡ rows_of s
+    → (own a c t₁ t₂ : ℕ) → own ≡ at_both (gathered z (spread built_in) j) → a ≡ byte_of own 0 → c ≡ byte_of own 4
+    → t₁ ≡ s.once ⊕ a → t₂ ≡ s.squared ⊕ c → SumsAt ls s j t₁ t₂
+sums_of_pair ls ok is s j hj z ez own a c t₁ t₂ eo ea ec e₁ e₂ =
+    let u : ℕ = gathered z (spread built_in) j in
+    sums_by ls ok s j hj (spread built_in) (ap spread (sym is)) z ez u a c t₁ t₂ refl
+    (ea ∙ ap (λ (v : ℕ). byte_of v 0) eo ∙ once_from u) (ec ∙ ap (λ (v : ℕ). byte_of v 4) eo ∙ squared_from u) e₁ e₂
 
 module _ (m : Marks) (lawful : LawfulMarks m) (d : Change) (t : Bool) (e : t ≡ leb (strays d (marked_chips m)) (further m.count)) where
   same_further : further m.count ≡ further (length (marked_chips m))

@@ -5,14 +5,10 @@ use lib.Dec.{eqb}
 use Rattle.code.specs.Labels.{built_in}
 use Rattle.decode.specs.Search.{Alone}
 use Rattle.decode.proofs.Alone.{alone_at}
-use Rattle.decode.proofs.fits_alone.Statement.{statement}
-use Rattle.decode.proofs.fits_alone.Tie as tie
+use Rattle.decode.proofs.fits_alone.Goals as goal
 
-returns : tie.Need-returns
+pub returns : goal.returns
 returns c =
     let s = c.before in
     subst (Alone built_in s.args.s s.args.j) (sym (ap₂ eqb s.requires.1 c.both.ensures))
     (alone_at s.args.s (omega arith) s.args.j s.requires.0)
-
-pub fits_alone_spec : {M : Type 1} → statement M
-fits_alone_spec = tie.close (tie.spec (λ c κs. tt) returns)
