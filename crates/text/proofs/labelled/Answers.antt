@@ -1,4 +1,4 @@
--- The word and the number, one behind the other.
+-- The word, and the digits after it.
 use Rattle.std.proofs.Common.{refl}
 use Rattle.text.proofs.Pieces.{joined}
 use Rattle.text.proofs.labelled.Goals as goal

@@ -1,4 +1,4 @@
--- What is labelled, and the newline behind it.
+-- The word and the number, and a newline after them.
 use Rattle.std.proofs.Common.{refl, append_assoc}
 use Rattle.text.proofs.Pieces.{joined}
 use Rattle.text.proofs.number_line.Goals as goal
