@@ -2,11 +2,12 @@
 // `sheet` says.
 #![tactic(auto)]
 
-use libc::STDOUT_FILENO;
+use std::io;
+use std::io::Write;
 
-fn main() {
+fn main(rt: HostRuntime) -> io::Result<()> {
     let mut out = [0u8; 1992];
     let said = sheet::say(&mut out);
-    // A write that fails can't be reported: a program has no exit status.
-    io::write_all(STDOUT_FILENO, &out[..said]);
+    // A write that fails is the program's error, and its exit status 1.
+    rt.stdout().write_all(&out[..said])
 }
