@@ -2,14 +2,26 @@
 // It only reads, has it said, and writes: what is printed is decided in the crate `program`, and proved there for every input.
 #![tactic(auto)]
 
-use libc::{STDIN_FILENO, STDOUT_FILENO};
+ghost use Rattle.std.specs.Prelude.{OnOk, IfSome};
+ghost use Rattle.cabinet.specs.Written.{Written};
 
-fn main() {
+use std::alloc::Global;
+use std::io;
+use std::io::{Read, Write};
+
+// Reads an input and writes its text, whole. A read that fails is the error, and nothing is written; so is a write that fails, and maybe a part
+// of the text is written.
+fn print_reading<R: Read + Drop, W: Write>(alloc: Global, from: R, to: &mut W) -> io::Result<()>
+    ensures { IfSome (R.remaining from) (λ input. OnOk result (Written input (W.contents to.old) (W.contents to.new))) }
+{
     // 4 mark bytes, the largest bank, and one byte by which a larger bank is known: program's proofs/Cut.antt.
-    let mut input = io::large_buffer();
-    let n = io::read_full(STDIN_FILENO, &mut input[..46085]);
+    let mut input = Vec::new(alloc);
+    from.take(46085).read_to_end(&mut input)?;
     let mut out = [0u8; 16384];
-    let said = program::say(&input[..n], &mut out);
-    // A write that fails can't be reported: a program has no exit status.
-    io::write_all(STDOUT_FILENO, &out[..said]);
+    let said = program::say(&input, &mut out);
+    to.write_all(&out[..said])
+}
+
+fn main(rt: HostRuntime) -> io::Result<()> {
+    print_reading(rt.alloc(), rt.stdin(), &mut rt.stdout())
 }

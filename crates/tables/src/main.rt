@@ -2,11 +2,22 @@
 // `sheet` says.
 #![tactic(auto)]
 
-use libc::STDOUT_FILENO;
+ghost use Rattle.std.specs.Prelude.{OnOk};
+ghost use Rattle.std.specs.Io.KnownBytes.{Appends};
+ghost use Rattle.sheet.specs.Sheet.{sheet};
 
-fn main() {
+use std::io;
+use std::io::Write;
+
+// Writes the text of the three tables, whole. A write that fails is the error, and maybe a part of the text is written.
+fn print_sheet<W: Write>(to: &mut W) -> io::Result<()>
+    ensures { OnOk result (Appends (W.contents to.old) (W.contents to.new) sheet) }
+{
     let mut out = [0u8; 1992];
     let said = sheet::say(&mut out);
-    // A write that fails can't be reported: a program has no exit status.
-    io::write_all(STDOUT_FILENO, &out[..said]);
+    to.write_all(&out[..said])
+}
+
+fn main(rt: HostRuntime) -> io::Result<()> {
+    print_sheet(&mut rt.stdout())
 }
