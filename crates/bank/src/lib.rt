@@ -27,6 +27,9 @@ pub enum Reported {
     Refused(u8),
 }
 
+// The length of the largest bank: 1,024 blocks.
+const LARGEST: usize = 46080;
+
 // 0, or the number that a bank's length gives: 0 bytes, no multiple of 45, or above 46,080.
 fn size_cause(n: usize) -> u8
     ensures { result ≡ lowest (size_causes n) }
@@ -37,7 +40,7 @@ fn size_cause(n: usize) -> u8
     if n % 45 != 0 {
         return 4;
     }
-    if n > 46080 {
+    if n > LARGEST {
         return 4;
     }
     0
@@ -170,7 +173,8 @@ fn class_at(bank: &[u8], k: usize, m: marks::Marks, left: u64) -> usize
     requires { (45 * k + 45 ≤ length bank.now) × (length bank.now ≤ 46080) × (marks_cause m ≡ 0) × LeftFrom bank.now k 1 left }
     ensures { ClassAt bank.now k m result × (bank.now ≡ bank.now) }
 {
-    if left % 2 == 0 {
+    let clean = left % 2 == 0;
+    if clean {
         return 0;
     }
     let at = 45 * k;

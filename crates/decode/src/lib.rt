@@ -94,7 +94,8 @@ fn no_marks(s: sums::Sums) -> Decoded
             fitting = 1;
             card = j;
             // under the built-in labels cards take different amounts, but for 0
-            if own != 0 {
+            let takes = own != 0;
+            if takes {
                 break 'five;
             }
         }
@@ -211,7 +212,8 @@ fn under_card(labels: &[u8], s: sums::Sums, m: marks::Marks, j: u8) -> Decoded
     let once = field::add(s.once, pairs::once(own));
     let squared = field::add(s.squared, pairs::squared(own));
     let w = chips::off_card(m, j);
-    if w.count == 0 {
+    let alone = w.count == 0;
+    if alone {
         return beside_card(labels, rows, once, squared, j);
     }
     if equations::fits(labels, once, squared, j, w) {

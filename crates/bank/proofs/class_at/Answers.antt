@@ -5,10 +5,10 @@ use Rattle.bank.proofs.Done.{looked}
 use Rattle.bank.proofs.Clean.{clean_class}
 use Rattle.bank.proofs.class_at.Goals as goal
 
-pub returns-then-left-eq0 : goal.returns-then-left-eq0
-returns-then-left-eq0 c =
+pub returns-then-clean : goal.returns-then-clean
+returns-then-clean c =
     let s = c.before.before in
-    (clean_class s.args.bank.now s.args.k s.args.left s.args.m s.requires.2 s.requires.3 c.if-left-eq0.true, refl)
+    (clean_class s.args.bank.now s.args.k s.args.left s.args.m s.requires.2 s.requires.3 c.if-clean.true, refl)
 
 pub returns : goal.returns
 returns c =

@@ -20,7 +20,7 @@ use Rattle.decode.proofs.Cards.{none_reads, several_reads}
 use Rattle.decode.proofs.Alone.{found_chips, found_card, second_card, passed_card, only_card, card_answers}
 use Rattle.decode.proofs.no_marks.Invariants.{Looking}
 use Rattle.decode.proofs.no_marks.Goals as goal
-use Rattle.decode.proofs.no_marks.Goals.{then-fits_alone+else-n-further+else-fitting-eq1+else-own-ne0, else-fits_alone, else-five-test, then-five-test+then-fits_alone+else-n-further+then-fitting-eq1, then-five-test+then-fits_alone+else-n-further+else-fitting-eq1+then-own-ne0}
+use Rattle.decode.proofs.no_marks.Goals.{then-fits_alone+else-n-further+else-fitting-eq1+else-takes, else-fits_alone, else-five-test, then-five-test+then-fits_alone+else-n-further+then-fitting-eq1, then-five-test+then-fits_alone+else-n-further+else-fitting-eq1+then-takes}
 use Rattle.decode.proofs.no_marks.Lts
 use Rattle.decode.proofs.no_marks.Reads
 use Rattle.decode.proofs.no_marks.Tie
@@ -52,7 +52,7 @@ five-preserved c =
     let own : c.five.j + 1 < 5 → c.next_card-own.result ≡ taken s (c.five.j + 1) =
     λ m. c.next_card-own.ensures ∙ ap next (inv.0.1 here) ∙ next_taken s c.five.j (omega arith) (omega (arith, m)) in
     elim c.if-fits_alone.branch [
-      | then-fits_alone+else-n-further+else-fitting-eq1+else-own-ne0 w ↦
+      | then-fits_alone+else-n-further+else-fitting-eq1+else-takes w ↦
           rw (w.fitting-is, w.card-is) (
             (omega arith, own),
             omega arith,
@@ -104,7 +104,7 @@ left c =
                   w.fits_alone.ensures w.if-fits_alone.true b k c.five.card (rw w.if-fitting-eq1.true at (inv.4.1 b k)),
             ),
           )
-      | then-five-test+then-fits_alone+else-n-further+else-fitting-eq1+then-own-ne0 w ↦
+      | then-five-test+then-fits_alone+else-n-further+else-fitting-eq1+then-takes w ↦
           rw (w.fitting-is, w.card-is) (
             omega arith,
             w.five-test.true,
@@ -113,7 +113,7 @@ left c =
               λ b k.
                   let z : c.five.fitting ≡ 0 = omega (arith, inv.1, w.if-fitting-eq1.false) in
                   let before = rw z at (inv.4.1 b k) in
-                  let some : c.five.own ≢ 0 = w.if-own-ne0.true in
+                  let some : c.five.own ≢ 0 = w.if-takes.true in
                   only_card s (omega (arith, c.well_formed)) (omega (arith, c.well_formed)) b k c.five.j w.five-test.true
                   (λ e. some (inv.0.1 w.five-test.true ∙ e)) c.five.card before
                   (found_card built_in built_in_set s c.count-n.result n c.five.j w.five-test.true w.fits_alone.result w.fits_alone.ensures

@@ -32,14 +32,14 @@ for_chips ls ok m lawful j hj qs e s r a =
 off : (m : Marks) → LawfulMarks m → (j : ℕ) (qs : List ℕ) → qs ≡ keep j (marked_chips m) → Beside j qs
 off m lawful j qs e = subst (Beside j) (sym e) (keep_beside j (marked_chips m) (few_chips m lawful))
 
-pub returns-then-w-eq0 : goal.returns-then-w-eq0
-returns-then-w-eq0 c =
+pub returns-then-alone : goal.returns-then-alone
+returns-then-alone c =
     let ls = c.args.labels.now in
     let s = c.args.s in
     let j = c.args.j in
     let ok = c.requires.0 in
     let w = c.off_card-w.result in
-    let none : w.count ≡ 0 = omega (arith, c.if-w-eq0.true) in
+    let none : w.count ≡ 0 = omega (arith, c.if-alone.true) in
     let at = sums_of_pair ls ok c.requires.1 s j c.requires.3 _ c.rows-rows.ensures _ _ _ _ _ c.on_card-own.ensures c.once.ensures
     c.squared.ensures c.add-once.ensures c.add-squared.ensures in
     for_chips ls ok c.args.m c.requires.2 j c.requires.3 (chips_off w) c.off_card-w.ensures s c.beside_card.result
@@ -64,7 +64,7 @@ returns-then-fits c =
     let t₁ = c.add-once.result in
     let t₂ = c.add-squared.result in
     let beside = off c.args.m c.requires.2 j (chips_off w) c.off_card-w.ensures in
-    let some : w.count ≢ 0 = λ z. omega (arith, z, c.if-w-eq0.false) in
+    let some : w.count ≢ 0 = λ z. omega (arith, z, c.if-alone.false) in
     let at = sums_of_pair ls ok c.requires.1 s j c.requires.3 _ c.rows-rows.ensures _ _ _ _ _ c.on_card-own.ensures c.once.ensures
     c.squared.ensures c.add-once.ensures c.add-squared.ensures in
     for_chips ls ok c.args.m c.requires.2 j c.requires.3 (chips_off w) c.off_card-w.ensures s _
@@ -83,7 +83,7 @@ returns c =
     let t₁ = c.add-once.result in
     let t₂ = c.add-squared.result in
     let beside = off c.args.m c.requires.2 j (chips_off w) c.off_card-w.ensures in
-    let some : w.count ≢ 0 = λ z. omega (arith, z, c.if-w-eq0.false) in
+    let some : w.count ≢ 0 = λ z. omega (arith, z, c.if-alone.false) in
     let at = sums_of_pair ls ok c.requires.1 s j c.requires.3 _ c.rows-rows.ensures _ _ _ _ _ c.on_card-own.ensures c.once.ensures
     c.squared.ensures c.add-once.ensures c.add-squared.ensures in
     for_chips ls ok c.args.m c.requires.2 j c.requires.3 (chips_off w) c.off_card-w.ensures s c.refused.result
