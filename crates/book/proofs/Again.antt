@@ -36,6 +36,8 @@ use Rattle.book.proofs.Whole.{fresh_is}
 last_from : (b : Book) (σ : State) → σ ≡ state_of b → (es : List Entry) (ss : List Seen) (b' : Book) → Booked b es ss b' → last_state σ ss ≡ state_of b'
 last_from b σ i [] [] b' Booked.end = i
 last_from b σ i (e ∷ es) (s ∷ ss) b'' (Booked.then {b' = b'} w r) = last_from b' s.after w.after es ss b'' r
+last_from b σ i [] (s ∷ ss) b' w = elim w [ ]
+last_from b σ i (e ∷ es) [] b' w = elim w [ ]
 
 pub last_of_book : LastOfBook
 last_of_book n es ss b w = last_from (fresh_book n) (fresh_state n) (fresh_is n) es ss b w
@@ -88,6 +90,8 @@ lawful_entry σ (hit i x) s l (h, b, e) = as_seen e l
 lawful_run : (σ : State) (es : List Entry) (ss : List Seen) → Lawful σ → Ran σ es ss → Lawful (last_state σ ss)
 lawful_run σ [] [] l Ran.end = l
 lawful_run σ (e ∷ es) (s ∷ ss) l (Ran.then w r) = lawful_run s.after es ss (lawful_entry σ e s l w) r
+lawful_run σ [] (s ∷ ss) l w = elim w [ ]
+lawful_run σ (e ∷ es) [] l w = elim w [ ]
 
 pub lawful_always : LawfulAlways
 lawful_always n es ss w = lawful_run (fresh_state n) es ss fresh_lawful w

@@ -16,7 +16,6 @@ use Rattle.block.specs.Read.{changed_at}
 use Rattle.block.proofs.Decided.{changed_agree}
 use Rattle.bank.specs.Calls.{clear_cause, put_cause, get_cause, patrol_cause, report_cause}
 use Rattle.bank.proofs.Each.{counts_agree}
-use Rattle.window.specs.Window.{proposal}
 use Rattle.registers.specs.Write.{command_of, ran, write_cause}
 use Rattle.registers.specs.declared.Command.{Command}
 use Rattle.registers.specs.declared.Command.TheVariants.{Get, Patrol, Mark, Unknown}
@@ -119,6 +118,10 @@ agree (e ∷ es) (s ∷ ss) (s' ∷ ss') b x x' (Booked.then {b' = y} w r) (Book
     let g = step_agree b e s s' y y' w v in
     let t = agree es ss ss' y x x' r (subst (λ (z : Book). Booked z es ss' x') (sym g.1) q) in
     (ap₂ (λ (a : Seen) (l : List Seen). a ∷ l) g.0 t.0, t.1)
+agree [] [] (s' ∷ ss') b x x' w v = elim v [ ]
+agree [] (s ∷ ss) ss' b x x' w v = elim w [ ]
+agree (e ∷ es) [] ss' b x x' w v = elim w [ ]
+agree (e ∷ es) (s ∷ ss) [] b x x' w v = elim v [ ]
 
 pub one_book : OneBook
 one_book n es ss ss' b b' w v = agree es ss ss' (fresh_book n) b b' w v

@@ -17,6 +17,8 @@ use Rattle.book.proofs.Agree.{one_book}
 as_many : (es : List Entry) (ss : List Seen) {b b' : Book} → Booked b es ss b' → length es ≡ length ss
 as_many [] [] Booked.end = refl
 as_many (e ∷ es) (s ∷ ss) (Booked.then w r) = ap suc (as_many es ss r)
+as_many [] (s ∷ ss) w = elim w [ ]
+as_many (e ∷ es) [] w = elim w [ ]
 
 pub last : (es : List Entry) (ss : List Seen) (e : Entry) (s : Seen) {b b'' : Book} → Booked b (es ++ (e ∷ [])) (ss ++ (s ∷ [])) b''
     → (b' : Book) × Booked b es ss b' × Step b' e s b''

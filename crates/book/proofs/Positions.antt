@@ -86,6 +86,8 @@ step_below b (hit i x) s b' f w = same_run w.says.2 f
 all_below : (es : List Entry) (ss : List Seen) (b b'' : Book) → Below b.run → Booked b es ss b'' → Below b''.run
 all_below [] [] b b'' f Booked.end = f
 all_below (e ∷ es) (s ∷ ss) b b'' f (Booked.then {b' = b'} w r) = all_below es ss b' b'' (step_below b e s b' f w) r
+all_below [] (s ∷ ss) b b'' f w = elim w [ ]
+all_below (e ∷ es) [] b b'' f w = elim w [ ]
 
 pub run_positions : RunOfPositions
 run_positions n es ss b w = all_below es ss (fresh_book n) b (λ p i. absurd i) w

@@ -60,6 +60,7 @@ module _ (n k : ℕ) (hk : k < n) (m : Marks) (good : List ℕ) (P : ℕ → Typ
 
   ended : (ss : List Seen) {b b' : Book} → Booked b [] ss b' → b ≡ b'
   ended [] Booked.end = refl
+  ended (s ∷ ss) w = elim w [ ]
 
   after_hits : (j : ℕ) → ((q : ℕ) → q / 9 ≡ j → P q) → (i x : ℕ) → i / 45 ≡ k → P (i % 45) → (hits : List Entry) → HitsOn k j hits → (ss : List Seen)
       (b b' : Book) → Booked b (hits ++ (hit i x ∷ [])) ss b' → Held b → Held b'
@@ -68,6 +69,8 @@ module _ (n k : ℕ) (hk : k < n) (m : Marks) (good : List ℕ) (P : ℕ → Typ
       after_hits j on i x e at hits g ss b₁ b' r (after_hit b b₁ a y s d (on (a % 45) c) w h)
   after_hits j on i x e at (call c ∷ hits) g ss b b' r h = absurd g
   after_hits j on i x e at (write a v out ∷ hits) g ss b b' r h = absurd g
+  after_hits j on i x e at [] g [] b b' r h = elim r [ ]
+  after_hits j on i x e at (hit a y ∷ hits) (d, c, g) [] b b' r h = elim r [ ]
 
 -- ---- the put and the marks
 mark_then : (b b' : Book) (c : MarkCall) (s : Seen) → mark_cause (marks_of b) c ≡ 0 → Step b (call (mark c)) s b'

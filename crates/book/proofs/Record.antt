@@ -145,6 +145,8 @@ module _ (n k : ℕ) (lo : 1 ≤ n) (hi : n ≤ 1024) (inside : k < n) where
   unfolding last_put
   all_kept [] [] g Booked.end = g
   all_kept (e ∷ es) (s ∷ ss) g (Booked.then w r) = all_kept es ss (entry_kept e s g w) r
+  all_kept [] (s ∷ ss) g w = elim w [ ]
+  all_kept (e ∷ es) [] g w = elim w [ ]
 
 -- every book of n blocks that a list leads to
 pub kept_after : (n k : ℕ) → 1 ≤ n → n ≤ 1024 → k < n → (es : List Entry) (ss : List Seen) (b : Book) → Booked (fresh_book n) es ss b

@@ -32,7 +32,7 @@ use Rattle.registers.specs.Write.{asked_block, command_of}
 use Rattle.registers.specs.declared.Command.{Command}
 use Rattle.registers.specs.declared.Command.TheVariants.{Get, Patrol}
 use Rattle.registers.proofs.Writes.{known_0}
-use Rattle.book.specs.Book.{put, get, patrol, Entry, call, hit, State, Seen, says, in_force, fresh_state, EntryDone, Ran}
+use Rattle.book.specs.Book.{put, Entry, call, hit, State, Seen, says, in_force, fresh_state, EntryDone, Ran}
 use Rattle.book.specs.Book.{Book, fresh_book, size, registers_of, marks_of, held_at, with_held, noted, state_of, CommandSays, Booked, Step}
 use Rattle.book.specs.Kept.{record_after, good_at, last_put, by_command, Answers}
 use Rattle.book.specs.Again.{last_state}
@@ -134,6 +134,8 @@ patrols_two_bad n es ss k e s r b w o z none p q bad =
 ran_many : (es : List Entry) (ss : List Seen) {σ : State} → Ran σ es ss → length es ≡ length ss
 ran_many [] [] Ran.end = refl
 ran_many (e ∷ es) (s ∷ ss) (Ran.then d r) = ap suc (ran_many es ss r)
+ran_many [] (s ∷ ss) r = elim r [ ]
+ran_many (e ∷ es) [] r = elim r [ ]
 
 ran_parts : (es fs : List Entry) (ss ts : List Seen) → length fs ≡ length ts → {σ : State} → Ran σ (es ++ fs) (ss ++ ts)
     → Ran σ es ss × Ran (last_state σ ss) fs ts
@@ -145,6 +147,8 @@ ran_parts (x ∷ es) fs (s ∷ ss) ts e (Ran.then d r) = let w = ran_parts es fs
 booked_join : (es fs : List Entry) (ss ts : List Seen) {b b' b'' : Book} → Booked b es ss b' → Booked b' fs ts b'' → Booked b (es ++ fs) (ss ++ ts) b''
 booked_join [] fs [] ts Booked.end v = v
 booked_join (e ∷ es) fs (s ∷ ss) ts (Booked.then w r) v = Booked.then w (booked_join es fs ss ts r v)
+booked_join [] fs (s ∷ ss) ts r v = elim r [ ]
+booked_join (e ∷ es) fs [] ts r v = elim r [ ]
 
 put_last : (n k : ℕ) (es fs : List Entry) (r : List ℕ) → last_put n k r (es ++ fs) ≡ last_put n k (last_put n k r es) fs
 unfolding last_put

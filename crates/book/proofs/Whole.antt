@@ -145,6 +145,8 @@ whole_from b long σ i (e ∷ es) (s ∷ ss) (Ran.then c r) =
     let n = step b long e s (subst (λ (τ : State). EntryDone τ e s) i c) in
     let w = whole_from n.0 n.2 s.after n.1.after es ss r in
     (w.0, Booked.then n.1 w.1, w.2)
+whole_from b long σ i [] (s ∷ ss) r = elim r [ ]
+whole_from b long σ i (e ∷ es) [] r = elim r [ ]
 
 pub fresh_is : (n : ℕ) → fresh_state n ≡ state_of (fresh_book n)
 fresh_is n = ap₂ (λ (l win : List ℕ). state l (rest_of fresh_registers) win) (replicate_flat 45 n 0) (sym window_empty)
