@@ -78,6 +78,11 @@ module _ (ns : List ℕ) (some : numbered ns ≡ true) where
   unfolding answer_in
   outcome_comes done was_done = record { fit = (omega arith, omega arith); back = refl; refusal = λ z. absurd (z refl); bit = refl }
   outcome_comes (refused n) (was_refused i) = number_comes n (number_of ns some n i)
+  outcome_comes clean x = elim x [ ]
+  outcome_comes (in_chips n) x = elim x [ ]
+  outcome_comes (in_card j n) x = elim x [ ]
+  outcome_comes (counted v w y z o) x = elim x [ ]
+  outcome_comes (refused_card n j) x = elim x [ ]
 
   pub reading_comes : (a : Answer) → Readings ns a → Comes a
   unfolding answer_in
@@ -104,6 +109,8 @@ module _ (ns : List ℕ) (some : numbered ns ≡ true) where
     back = let p : 16 * j / 16 ≡ j = omega arith in simp (e, p);
   }
   reading_comes (refused n) (not_read i) = number_comes n (number_of ns some n i)
+  reading_comes done x = elim x [ ]
+  reading_comes (counted v w y z o) x = elim x [ ]
 
 mark_comes : (c : MarkCall) (a : Answer) → Outcomes (mark_numbers c) a → Comes a
 mark_comes (PlaceChip p) a w = outcome_comes (6 ∷ 7 ∷ 8 ∷ []) refl a w

@@ -15,7 +15,6 @@ use lib.ListN.{length, get_or, drop}
 use lib.Seq.{drop-cons, drop-length, get_or-append-add}
 use borrow.Author.Tests.{lt-ltb, le-ltb}
 use Rattle.base.proofs.Tests.{same}
-use Rattle.answer.specs.Answer.{clean}
 use Rattle.marks.specs.Marks.{bytes}
 use Rattle.marks.proofs.Laws.{bytes_marks_in}
 use Rattle.registers.specs.Registers.{raised, registers_in, cells}

@@ -62,7 +62,7 @@ fresh_asks κs a = tt
 
 pub from_bytes_tied : (κs : Lifetimes.Lfts 1) (a : World.ArgsD from_bytes.signature κs) (r : World.ResD from_bytes.signature κs)
     (s : Clauses.AtExit (Kinds.ended_of 1 from_bytes_kinds.ps from_bytes_kinds.r) κs) → from_bytes_reads.Learnt κs a r s
-    → (r ≡ registers_in a.0.now) × (s.0.now ≡ a.0.now)
+    → (r ≡ registers_in a.0.now) × (a.0.now ≡ a.0.now)
 from_bytes_tied κs a r s l = l
 
 pub from_bytes_asks : (κs : Lifetimes.Lfts 1) (a : World.ArgsD from_bytes.signature κs) → from_bytes_reads.Asked κs a
