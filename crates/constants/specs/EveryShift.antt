@@ -1,7 +1,7 @@
 -- Constants that the code has not in a table but worked into shifts, beside what the tables program works out.
 --
 --   worked_D, worked_E, worked_T   two entries of card 4's reduced matrix, D and E, by the printed labels; T = 1 / (D · E · (D + E))
---   worked_factors     T-as-E², T-as-E, T-as-D², T-as-D, by the printed powers and logarithms
+--   worked_factors     T·E², T·E, T·D², T·D, by the printed powers and logarithms
 --   EveryShift         bytes 34 and 35 of a block that is stored are the two label sums times these factors
 --
 -- (The other shifts are held to the labels by the contracts of sums: `taken`, `next`, `BlockSums`, `RecordSums` and `FourLeft` say what they

@@ -10,7 +10,7 @@ use mathlib.Core.List.{List, [], ◌∷◌, ◌++◌, append_assoc, append-nil}
 use native.Mathlib.Omega.{arith}
 use lib.ListN.{length, get_or, take, drop, length-append, length-take, length-drop, take-append-drop}
 use lib.Seq.{take-length, take-take, split_at, get_or-take, get_or-drop}
-use Rattle.base.proofs.Tests.{same, lt_or_le}
+use Rattle.base.proofs.Tests.{lt_or_le}
 use Rattle.answer.specs.Answer.{Answer, done, clean, in_chips, in_card, counted, refused, refused_card}
 use Rattle.reading.specs.Reading.{reading_answer}
 use Rattle.reading.specs.declared.Kind.TheVariants.{Clean, Chips, OneCard}

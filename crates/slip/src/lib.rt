@@ -62,7 +62,8 @@ pub fn write(slips: &mut [u8], at: usize, k: usize, r: Reading) -> Wrote
     if at > slips.len() {
         return Wrote::Refused(17);
     }
-    if slips.len() - at < size {
+    let full = slips.len() - at < size;
+    if full {
         return Wrote::Refused(17);
     }
     let slip = made.bytes;
