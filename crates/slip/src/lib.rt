@@ -110,7 +110,8 @@ pub fn read(slips: &[u8], at: usize) -> Found
     let mut p = at + 1;
     let mut i = 0;
     while i < size {
-        if p >= n {
+        let cut = p >= n;
+        if cut {
             return Found::Refused(15, n);
         }
         if !limits::between(least[i], slips[p], most[i]) {

@@ -26,10 +26,10 @@ loop-i-init c = judged_map _ _ c.if-at-n.false
 size_is : (l : Limits) (m : ℕ) → l ≡ limits_of m → l.size ≡ (limits_of m).size
 size_is l m e = ap (λ (x : Limits). x.size) e
 
-pub returns-then-p-n : goal.returns-then-p-n
-returns-then-p-n c =
+pub returns-then-cut : goal.returns-then-cut
+returns-then-cut c =
     cut_within _ _ c.if-at-n.false _ _ c.loop-i.invariant (omega (arith, c.loop-i-test.true, size_is _ _ c.behind-behind.ensures))
-    (omega (arith, c.if-p-n.true))
+    (omega (arith, c.if-cut.true))
 
 -- a byte's limits are among the five
 few : (l : Limits) (m j : ℕ) → l ≡ limits_of m → j < l.size → j < 5
@@ -47,14 +47,14 @@ Meets x j l = (get_or l.least j 0 ≤ x) × (x ≤ get_or l.most j 0)
 
 pub returns-then-not-between : goal.returns-then-not-between
 returns-then-not-between c =
-    bad_byte _ _ c.if-at-n.false _ _ c.loop-i.invariant (omega (arith, c.loop-i-test.true, size_is _ _ c.behind-behind.ensures)) c.if-p-n.false
+    bad_byte _ _ c.if-at-n.false _ _ c.loop-i.invariant (omega (arith, c.loop-i-test.true, size_is _ _ c.behind-behind.ensures)) c.if-cut.false
     (λ w. true≢false (sym (c.between.ensures.1 (subst (Meets _ _) (sym c.behind-behind.ensures) w)) ∙ c.if-not-between.true)) _ (omega arith)
 
 pub loop-i-preserved : goal.loop-i-preserved
 loop-i-preserved c =
     let w = subst (Meets _ _) c.behind-behind.ensures (c.between.ensures.0 c.if-not-between.false) in
     judged_more _ _ c.if-at-n.false _ _ c.loop-i.invariant (omega (arith, c.loop-i-test.true, size_is _ _ c.behind-behind.ensures))
-    (omega (arith, c.if-p-n.false)) (omega (arith, w.0)) (omega (arith, w.1))
+    (omega (arith, c.if-cut.false)) (omega (arith, w.0)) (omega (arith, w.1))
 
 -- after the loop: all of the slip is there, the map and three bytes or more
 whole : (l : Limits) (s : List ℕ) (i j p : ℕ) → i < length s → l ≡ limits_of (get_or s i 0) → l.size ≢ 0 → Judged s i j p → l.size ≤ j
