@@ -2,7 +2,7 @@
 --
 --   after, low_add, part_add, up_add   maps one after the other, masks and shifts are additive
 --   paired_add                    pairs are added byte by byte; no_pair: that of 0 and 0 is 0
---   lesser, lesser_is             the code's reduction of two polynomials 32 digits apart, and what it comes to
+--   lesser_is                     what the code's reduction of two polynomials 32 digits apart comes to (Lesser.antt)
 --   halves, both                  the bytes of a word as a polynomial at x, and 32 digits up at x squared, not yet reduced
 --   both_is                       reduced, it is the value at both points
 --   paired_digits                 two bytes 32 digits apart as one number; first_of, second_of: each of the two, taken from it
@@ -20,6 +20,7 @@ use Rattle.field.proofs.Remainder.{times_pow_add, remainder_add}
 use Rattle.field.proofs.Linear.{bit_lt, bit_ind, Additive}
 use Rattle.pairs.specs.Words.{byte_of, at_point, paired, at_both, reduced}
 use Rattle.pairs.specs.Shifts.{low, part, up}
+use Rattle.pairs.proofs.Lesser.{quotients, lesser}
 use Rattle.pairs.proofs.Points.{at_point_add, at_point_below, agree}
 
 digit : (x y z : ℕ) → x < 2 → y < 2 → z < 2 → min (bit_xor x y) z ≡ differ (bit_and x z) (bit_and y z)
@@ -66,16 +67,6 @@ unfolding ◌⊕◌
 no_pair = refl
 
 -- ---- two polynomials 32 digits apart, each by the modulus: how often it goes into them, by digits that are bits, and what is left
-unfoldable pub quotients : ℕ → ℕ
-quotients v =
-    let h : ℕ = part 8 0x00003fff00003fff v in
-    low 0x000000ff000000ff (h ⊕ ((h ⊕ ((h ⊕ ((h ⊕ ((h ⊕ (h / 2 ^ 3)) / 2 ^ 4)) / 2 ^ 1)) / 2 ^ 1)) / 2 ^ 4))
-
-unfoldable pub lesser : ℕ → ℕ
-lesser v =
-    let q : ℕ = quotients v in
-    low 0x000000ff000000ff (v ⊕ q ⊕ up 2 (q ⊕ up 1 (q ⊕ up 1 q)))
-
 quotients_add : Additive quotients
 unfolding quotients
 quotients_add a b = simp (low_add, part_add, add_shr, sums)

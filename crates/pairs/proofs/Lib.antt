@@ -1,4 +1,5 @@
 pub mod Points
 pub mod Bytes
+pub mod Lesser
 pub mod Fold
 pub mod Tied

@@ -4,7 +4,6 @@ use Prim.Native.Nat.{ℕ, ◌*◌, ◌/◌, ◌%◌, ◌^◌}
 use native.Mathlib.Omega.{arith}
 use Rattle.field.specs.Field.{◌·◌}
 use Rattle.field.proofs.Inverses.{in_table, in_table_zero, in_table_inverse}
-use borrow.Author.Rules.{rules}
 use Rattle.field.proofs.invert.Goals as goal
 
 pub returns : goal.returns

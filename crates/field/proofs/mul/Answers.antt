@@ -1,8 +1,7 @@
-use mathlib.Core.Path.{◌≡◌, sym, ◌∙◌, subst}
+use mathlib.Core.Path.{sym, ◌∙◌, subst}
 use Prim.Native.Nat.{ℕ, ◌<◌, ◌^◌}
 use native.Mathlib.Omega.{arith}
-use Rattle.field.specs.Field.{◌⊕◌, ◌·◌}
-use Rattle.field.proofs.Product.{rounds}
+use Rattle.field.specs.Field.{◌⊕◌}
 use Rattle.field.proofs.Gf256.{in_rounds, two_mul, field}
 use Rattle.field.proofs.Steps.{round_set, round_clear, rounds_start, rounds_end}
 use Rattle.field.proofs.mul.Goals as goal

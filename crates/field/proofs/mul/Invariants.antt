@@ -1,12 +1,8 @@
 -- Invariant: the result so far, and what the rounds left will add, make the product.
-use mathlib.Core.Path.{◌≡◌, sym, ◌∙◌, subst}
-use Prim.Native.Nat.{ℕ, ◌<◌, ◌^◌}
-use mathlib.Core.Logic.{⊎_elim}
-use native.Mathlib.Omega.{arith}
+use mathlib.Core.Path.{◌≡◌}
+use Prim.Native.Nat.{◌<◌, ◌^◌}
 use Rattle.field.specs.Field.{◌⊕◌, ◌·◌}
 use Rattle.field.proofs.Product.{rounds}
-use Rattle.field.proofs.Gf256.{in_rounds, two_mul, field}
-use Rattle.field.proofs.Steps.{round_set, round_clear, rounds_start, rounds_end}
 use Rattle.field.proofs.mul.Given as goal
 
 abbrev pub invariant-loop-n : goal.invariant-loop-n

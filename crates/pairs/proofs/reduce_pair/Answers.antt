@@ -2,7 +2,8 @@
 use native.Mathlib.Omega.{arith}
 use Rattle.field.specs.Field.{◌⊕◌}
 use Rattle.pairs.specs.Shifts.{low, part, up}
-use Rattle.pairs.proofs.Fold.{quotients, lesser, lesser_is}
+use Rattle.pairs.proofs.Lesser.{quotients, lesser}
+use Rattle.pairs.proofs.Fold.{lesser_is}
 use Rattle.pairs.proofs.reduce_pair.Goals as goal
 
 pub returns : goal.returns
