@@ -6,6 +6,6 @@ use Rattle.cabinet.proofs.print_reading.Goals as goal
 pub returns : goal.returns
 returns g c =
     answered _ _ c.write_all.result (omega arith) c.say-said.ensures (g.R.Read.remaining c.args.from)
-    (front g.R.Read.remaining c.args.from c.take.result _ _ _ c.take.ensures.limit c.take.ensures.inner c.new-input.ensures.items c.deref.ensures.value
-    c.in_ok-read_to_end.ensures.bytes)
+    (front g.R.Read.remaining c.args.from c.take.result _ _ _ c.take.ensures.limit c.take.ensures.inner c.new-input.ensures c.deref.ensures.0
+    c.in_ok-copy.ensures.bytes)
     c.write_all.ensures.bytes
