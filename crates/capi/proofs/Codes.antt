@@ -110,6 +110,11 @@ module _ (ns : List ℕ) (some : numbered ns ≡ true) where
   unfolding outcome_in by_number
   outcome_back done was_done = refl
   outcome_back (refused n) (was_refused i) = let r = number_back n i in simp (r.0, r.1)
+  outcome_back clean w = elim w [ ]
+  outcome_back (in_chips n) w = elim w [ ]
+  outcome_back (in_card j n) w = elim w [ ]
+  outcome_back (counted u v x y z) w = elim w [ ]
+  outcome_back (refused_card n j) w = elim w [ ]
 
   -- "chips n" is of kind 1, and a card's answer of kind 2
   chips_coded : (n : ℕ) → n < 256 → (number_in (code (in_chips n)) ≡ 0) × (kind_in (code (in_chips n)) ≡ 1) × (n_in (code (in_chips n)) ≡ n)
@@ -132,6 +137,8 @@ module _ (ns : List ℕ) (some : numbered ns ≡ true) where
       let s = split n 0 j 0 (omega (arith, e)) (omega arith) (omega (arith, h)) (omega arith) in
       simp (s.0, s.2, ne_eqb n 0 (λ z. omega (arith, e, z)), eq-eqb n 11 e)
   reading_back (refused n) (not_read i) = let r = number_back n i in simp (r.0, r.1, r.2)
+  reading_back done w = elim w [ ]
+  reading_back (counted u v x y z) w = elim w [ ]
 
   pub report_back : (a : Answer) → Reports ns a → report_in (code a) ≡ a
   unfolding report_in by_number
@@ -139,11 +146,21 @@ module _ (ns : List ℕ) (some : numbered ns ≡ true) where
       let s = split_totals u v x y z (omega (arith, a)) (omega (arith, b)) (omega (arith, c)) (omega (arith, d)) (omega (arith, e)) in
       simp (s.0, s.1, s.2, s.3, s.4, s.5)
   report_back (refused n) (not_counted i) = let r = number_back n i in simp (r.0, r.1)
+  report_back done w = elim w [ ]
+  report_back clean w = elim w [ ]
+  report_back (in_chips n) w = elim w [ ]
+  report_back (in_card j n) w = elim w [ ]
+  report_back (refused_card n j) w = elim w [ ]
 
   -- ---- the number in a code is 01's number of the answer
   pub outcome_number : (a : Answer) → Outcomes ns a → number_in (code a) ≡ number a
   outcome_number done was_done = refl
   outcome_number (refused n) (was_refused i) = (number_back n i).0
+  outcome_number clean w = elim w [ ]
+  outcome_number (in_chips n) w = elim w [ ]
+  outcome_number (in_card j n) w = elim w [ ]
+  outcome_number (counted u v x y z) w = elim w [ ]
+  outcome_number (refused_card n j) w = elim w [ ]
 
   pub reading_number : (a : Answer) → Readings ns a → number_in (code a) ≡ number a
   reading_number clean was_clean = refl
@@ -151,11 +168,18 @@ module _ (ns : List ℕ) (some : numbered ns ≡ true) where
   reading_number (in_card j n) (was_in_card h i) = (card_coded j n (omega (arith, h)) (omega (arith, i))).0
   reading_number (refused_card n j) (was_several e h) = (split n 0 j 0 (omega (arith, e)) (omega arith) (omega (arith, h)) (omega arith)).0
   reading_number (refused n) (not_read i) = (number_back n i).0
+  reading_number done w = elim w [ ]
+  reading_number (counted u v x y z) w = elim w [ ]
 
   pub report_number : (a : Answer) → Reports ns a → number_in (code a) ≡ number a
   report_number (counted u v x y z) (were_counted a b c d e) =
       (split_totals u v x y z (omega (arith, a)) (omega (arith, b)) (omega (arith, c)) (omega (arith, d)) (omega (arith, e))).0
   report_number (refused n) (not_counted i) = (number_back n i).0
+  report_number done w = elim w [ ]
+  report_number clean w = elim w [ ]
+  report_number (in_chips n) w = elim w [ ]
+  report_number (in_card j n) w = elim w [ ]
+  report_number (refused_card n j) w = elim w [ ]
 
   -- ---- so two answers with one code are the same
   one : (f : ℕ → Answer) (a b : Answer) → f (code a) ≡ a → f (code b) ≡ b → code a ≡ code b → a ≡ b
@@ -174,6 +198,11 @@ module _ (ns : List ℕ) (some : numbered ns ≡ true) where
   pub outcome_fits : (a : Answer) → Outcomes ns a → code a < 2 ^ 32
   outcome_fits done was_done = omega arith
   outcome_fits (refused n) (was_refused i) = omega (arith, (number_of ns some n i).1)
+  outcome_fits clean w = elim w [ ]
+  outcome_fits (in_chips n) w = elim w [ ]
+  outcome_fits (in_card j n) w = elim w [ ]
+  outcome_fits (counted u v x y z) w = elim w [ ]
+  outcome_fits (refused_card n j) w = elim w [ ]
 
   pub reading_fits : (a : Answer) → Readings ns a → code a < 2 ^ 32
   reading_fits clean was_clean = omega arith
@@ -181,7 +210,14 @@ module _ (ns : List ℕ) (some : numbered ns ≡ true) where
   reading_fits (in_card j n) (was_in_card h i) = omega (arith, h, i)
   reading_fits (refused_card n j) (was_several e h) = omega (arith, e, h)
   reading_fits (refused n) (not_read i) = omega (arith, (number_of ns some n i).1)
+  reading_fits done w = elim w [ ]
+  reading_fits (counted u v x y z) w = elim w [ ]
 
   pub report_fits : (a : Answer) → Reports ns a → code a < 2 ^ 63
   report_fits (counted u v x y z) (were_counted a b c d e) = omega (arith, a, b, c, d, e)
   report_fits (refused n) (not_counted i) = omega (arith, (number_of ns some n i).1)
+  report_fits done w = elim w [ ]
+  report_fits clean w = elim w [ ]
+  report_fits (in_chips n) w = elim w [ ]
+  report_fits (in_card j n) w = elim w [ ]
+  report_fits (refused_card n j) w = elim w [ ]
