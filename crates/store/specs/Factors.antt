@@ -1,8 +1,8 @@
 -- The four factors by which the two label sums give bytes 34 and 35. With D and E the entries of chips 34 and 35 in card 4's reduced matrix and
--- T = 1 / (D · E · (D + E)), byte 34 is T-as-E² times the first sum plus T-as-E times the second, byte 35 is T-as-D² times the first plus T-as-D times the second.
+-- T = 1 / (D · E · (D + E)), byte 34 is T·E² times the first sum plus T·E times the second, byte 35 is T·D² times the first plus T·D times the second.
 --
 --   D, E                the two entries
---   Factors             f, g, h, k are T-as-E², T-as-E, T-as-D², T-as-D
+--   Factors             f, g, h, k are T·E², T·E, T·D², T·D
 use Rattle.std.specs.Prelude.{◌≡◌, List, ℕ}
 use Rattle.field.specs.Field.{◌⊕◌, ◌·◌}
 use Rattle.code.specs.Labels.{entry}
