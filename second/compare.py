@@ -284,7 +284,7 @@ def compare(program, name, parts, stated=None):
 
 def report(difference, seed):
     name, data, who, said, wanted = difference.args
-    place = ROOT / "target" / "difference.bin"
+    place = ROOT / "built" / "difference.bin"
     place.parent.mkdir(exist_ok=True)
     place.write_bytes(data)
     print(f"seed {seed}: {name}")
@@ -315,8 +315,8 @@ def _parser():
         description="Compare the bank program with the second one, "
                     "byte for byte.")
     parser.add_argument("--program", type=Path, metavar="FILE",
-                        default=ROOT / "target" / "bin" / "cabinet",
-                        help="the bank program (default target/bin/cabinet)")
+                        default=ROOT / "crates" / "cabinet" / "out" / "cabinet",
+                        help="the bank program (default crates/cabinet/out/cabinet)")
     parser.add_argument("--seed", type=int, default=1,
                         help="seed of the banks (default 1)")
     parser.add_argument("--banks", type=int, default=3000,
@@ -332,7 +332,7 @@ def main():
     wanted = _parser().parse_args()
     program = str(wanted.program.resolve())
     if not wanted.program.is_file():
-        print("no bank program there; build it by: rt check cabinet")
+        print("no bank program there; build it by: rt run, in crates/cabinet")
         return 1
     done = 0
     try:

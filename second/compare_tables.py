@@ -135,8 +135,8 @@ def _parser():
         description="Compare the program that prints the tables with the second one "
                     "and with docs/TABLES.txt, byte for byte.")
     parser.add_argument("--program", type=Path, metavar="FILE",
-                        default=ROOT / "target" / "bin" / "tables",
-                        help="the program (default target/bin/tables)")
+                        default=ROOT / "crates" / "tables" / "out" / "tables",
+                        help="the program (default crates/tables/out/tables)")
     parser.add_argument("--printed", type=Path, metavar="FILE",
                         default=ROOT / "docs" / "TABLES.txt",
                         help="what it has printed (default docs/TABLES.txt)")
@@ -146,10 +146,10 @@ def _parser():
 def main():
     wanted = _parser().parse_args()
     if not (wanted.program.is_file() and os.access(wanted.program, os.X_OK)):
-        print(f"no program {name_of(wanted.program)}; build it by: rt check tables")
+        print(f"no program {name_of(wanted.program)}; build it by: rt run, in crates/tables")
         return 2
     if not wanted.printed.is_file():
-        print(f"no file {name_of(wanted.printed)}; it is what target/bin/tables prints")
+        print(f"no file {name_of(wanted.printed)}; it is what crates/tables/out/tables prints")
         return 2
     try:
         count = compare(wanted.program, wanted.printed)

@@ -189,7 +189,7 @@ class Compared(unittest.TestCase):
         for spoil in (lambda: self.program.chmod(0o644), self.program.unlink):
             spoil()
             self.assertEqual(self.compare(), (
-                2, f"no program {self.program}; build it by: rt check tables\n"))
+                2, f"no program {self.program}; build it by: rt run, in crates/tables\n"))
 
     def test_names_in_the_project(self):
         path = compare_tables.ROOT / "docs" / "TABLES.txt"

@@ -112,7 +112,7 @@ class Compare(unittest.TestCase):
     def test_no_program(self):
         done = run("compare.py", "--program", self.program, text=True)
         self.assertEqual(done.returncode, 1)
-        self.assertIn("rt check cabinet", done.stdout)
+        self.assertIn("rt run, in crates/cabinet", done.stdout)
 
     def test_banks_and_seed(self):
         def inputs(banks, seed):
