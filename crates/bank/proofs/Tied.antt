@@ -35,19 +35,21 @@ clear_asks κs a = tt
 
 -- put: bank, block number, record
 pub put_tied : (κs : Lifetimes.Lfts 2) (a : World.ArgsD put.signature κs) (r : World.ResD put.signature κs)
-    (s : Clauses.AtExit (Kinds.ended_of 2 put_kinds.ps put_kinds.r) κs) → put_reads.Learnt κs a r s
-    → PutDone a.0.now a.1.0 a.1.1.0.now (outcome_answer r) s.0.now a.1.1.0.now
-put_tied κs a r s l = l
+    (ws : Clauses.Lasts (Kinds.ended_of 2 put_kinds.ps put_kinds.r) κs a)
+    → let s = Clauses.at_exit (Kinds.ended_of 2 put_kinds.ps put_kinds.r) κs a ws in put_reads.Learnt κs a r s
+    → PutDone a.0.now a.1.0 a.1.1.0.now (outcome_answer r) s.0.now s.1.1.0.now
+put_tied κs a r ws l = l
 
 pub put_asks : (κs : Lifetimes.Lfts 2) (a : World.ArgsD put.signature κs) → put_reads.Asked κs a
 put_asks κs a = tt
 
 -- get: bank, block number, marks, output, window
 pub get_tied : (κs : Lifetimes.Lfts 3) (a : World.ArgsD get.signature κs) (r : World.ResD get.signature κs)
-    (s : Clauses.AtExit (Kinds.ended_of 3 get_kinds.ps get_kinds.r) κs) → get_reads.Learnt κs a r s
-    → GetDone a.0.now a.1.0 a.1.1.0 a.1.1.1.0.now a.1.1.1.1.0.now (reading_answer r) a.0.now s.1.1.1.0.now
+    (ws : Clauses.Lasts (Kinds.ended_of 3 get_kinds.ps get_kinds.r) κs a)
+    → let s = Clauses.at_exit (Kinds.ended_of 3 get_kinds.ps get_kinds.r) κs a ws in get_reads.Learnt κs a r s
+    → GetDone a.0.now a.1.0 a.1.1.0 a.1.1.1.0.now a.1.1.1.1.0.now (reading_answer r) s.0.now s.1.1.1.0.now
     s.1.1.1.1.0.now
-get_tied κs a r s l = l
+get_tied κs a r ws l = l
 
 pub get_asks : (κs : Lifetimes.Lfts 3) (a : World.ArgsD get.signature κs) → get_reads.Asked κs a
 get_asks κs a = tt
@@ -63,9 +65,10 @@ patrol_asks κs a = tt
 
 -- report: bank, marks
 pub report_tied : (κs : Lifetimes.Lfts 1) (a : World.ArgsD report.signature κs) (r : World.ResD report.signature κs)
-    (s : Clauses.AtExit (Kinds.ended_of 1 report_kinds.ps report_kinds.r) κs) → report_reads.Learnt κs a r s
-    → ReportDone a.0.now a.1.0 (report_answer r) a.0.now
-report_tied κs a r s l = l
+    (ws : Clauses.Lasts (Kinds.ended_of 1 report_kinds.ps report_kinds.r) κs a)
+    → let s = Clauses.at_exit (Kinds.ended_of 1 report_kinds.ps report_kinds.r) κs a ws in report_reads.Learnt κs a r s
+    → ReportDone a.0.now a.1.0 (report_answer r) s.0.now
+report_tied κs a r ws l = l
 
 pub report_asks : (κs : Lifetimes.Lfts 1) (a : World.ArgsD report.signature κs) → report_reads.Asked κs a
 report_asks κs a = tt

@@ -29,18 +29,20 @@ use Rattle.block.proofs.record_part.Reads as record_part_reads
 
 -- read: received block, marks, output
 pub read_tied : (κs : Lifetimes.Lfts 2) (a : World.ArgsD read.signature κs) (r : World.ResD read.signature κs)
-    (s : Clauses.AtExit (Kinds.ended_of 2 read_kinds.ps read_kinds.r) κs) → read_reads.Learnt κs a r s
-    → ReadDone a.0.now a.1.0 a.1.1.0.now (reading_answer r) a.0.now s.1.1.0.now
-read_tied κs a r s l = l
+    (ws : Clauses.Lasts (Kinds.ended_of 2 read_kinds.ps read_kinds.r) κs a)
+    → let s = Clauses.at_exit (Kinds.ended_of 2 read_kinds.ps read_kinds.r) κs a ws in read_reads.Learnt κs a r s
+    → ReadDone a.0.now a.1.0 a.1.1.0.now (reading_answer r) s.0.now s.1.1.0.now
+read_tied κs a r ws l = l
 
 pub read_asks : (κs : Lifetimes.Lfts 2) (a : World.ArgsD read.signature κs) → read_reads.Asked κs a
 read_asks κs a = tt
 
 -- read_noted: received block, marks, output, window
 pub read_noted_tied : (κs : Lifetimes.Lfts 3) (a : World.ArgsD read_noted.signature κs) (r : World.ResD read_noted.signature κs)
-    (s : Clauses.AtExit (Kinds.ended_of 3 read_noted_kinds.ps read_noted_kinds.r) κs) → read_noted_reads.Learnt κs a r s
-    → NotedDone a.0.now a.1.0 a.1.1.0.now a.1.1.1.0.now (reading_answer r) a.0.now s.1.1.0.now s.1.1.1.0.now
-read_noted_tied κs a r s l = l
+    (ws : Clauses.Lasts (Kinds.ended_of 3 read_noted_kinds.ps read_noted_kinds.r) κs a)
+    → let s = Clauses.at_exit (Kinds.ended_of 3 read_noted_kinds.ps read_noted_kinds.r) κs a ws in read_noted_reads.Learnt κs a r s
+    → NotedDone a.0.now a.1.0 a.1.1.0.now a.1.1.1.0.now (reading_answer r) s.0.now s.1.1.0.now s.1.1.1.0.now
+read_noted_tied κs a r ws l = l
 
 pub read_noted_asks : (κs : Lifetimes.Lfts 3) (a : World.ArgsD read_noted.signature κs) → read_noted_reads.Asked κs a
 read_noted_asks κs a = tt
@@ -56,27 +58,30 @@ mend_asks κs a = tt
 
 -- look: block, marks
 pub look_tied : (κs : Lifetimes.Lfts 1) (a : World.ArgsD look.signature κs) (r : World.ResD look.signature κs)
-    (s : Clauses.AtExit (Kinds.ended_of 1 look_kinds.ps look_kinds.r) κs) → look_reads.Learnt κs a r s
-    → LookDone a.0.now a.1.0 (reading_answer r) a.0.now
-look_tied κs a r s l = l
+    (ws : Clauses.Lasts (Kinds.ended_of 1 look_kinds.ps look_kinds.r) κs a)
+    → let s = Clauses.at_exit (Kinds.ended_of 1 look_kinds.ps look_kinds.r) κs a ws in look_reads.Learnt κs a r s
+    → LookDone a.0.now a.1.0 (reading_answer r) s.0.now
+look_tied κs a r ws l = l
 
 pub look_asks : (κs : Lifetimes.Lfts 1) (a : World.ArgsD look.signature κs) → look_reads.Asked κs a
 look_asks κs a = tt
 
 -- four_unclean: four blocks
 pub four_unclean_tied : (κs : Lifetimes.Lfts 1) (a : World.ArgsD four_unclean.signature κs) (r : World.ResD four_unclean.signature κs)
-    (s : Clauses.AtExit (Kinds.ended_of 1 four_unclean_kinds.ps four_unclean_kinds.r) κs) → four_unclean_reads.Learnt κs a r s
-    → FourUnclean a.0.now r a.0.now
-four_unclean_tied κs a r s l = l
+    (ws : Clauses.Lasts (Kinds.ended_of 1 four_unclean_kinds.ps four_unclean_kinds.r) κs a)
+    → let s = Clauses.at_exit (Kinds.ended_of 1 four_unclean_kinds.ps four_unclean_kinds.r) κs a ws in four_unclean_reads.Learnt κs a r s
+    → FourUnclean a.0.now r s.0.now
+four_unclean_tied κs a r ws l = l
 
 pub four_unclean_asks : (κs : Lifetimes.Lfts 1) (a : World.ArgsD four_unclean.signature κs) → four_unclean_reads.Asked κs a
 four_unclean_asks κs a = tt
 
 -- record_part: output, reading; the part is of that same output, not a copy
 pub record_part_tied : (κs : Lifetimes.Lfts 1) (a : World.ArgsD record_part.signature κs) (r : World.ResD record_part.signature κs)
-    (s : Clauses.AtExit (Kinds.ended_of 1 record_part_kinds.ps record_part_kinds.r) κs) → record_part_reads.Learnt κs a r s
-    → (r.now ≡ record_in a.0.now (reading_answer a.1.0)) × (r.ref_ptr ≡ a.0.ref_ptr) × (a.0.now ≡ a.0.now)
-record_part_tied κs a r s l = l
+    (ws : Clauses.Lasts (Kinds.ended_of 1 record_part_kinds.ps record_part_kinds.r) κs a)
+    → let s = Clauses.at_exit (Kinds.ended_of 1 record_part_kinds.ps record_part_kinds.r) κs a ws in record_part_reads.Learnt κs a r s
+    → (r.now ≡ record_in a.0.now (reading_answer a.1.0)) × (r.ref_ptr ≡ a.0.ref_ptr) × (s.0.now ≡ a.0.now)
+record_part_tied κs a r ws l = l
 
 pub record_part_asks : (κs : Lifetimes.Lfts 1) (a : World.ArgsD record_part.signature κs) → record_part_reads.Asked κs a
 record_part_asks κs a = tt

@@ -50,7 +50,7 @@ use Rattle.window.proofs.propose.Reads as propose_reads
 use Rattle.marks.specs.contracts.mark as mark
 use Rattle.marks.proofs.mark.Kinds as mark_kinds
 use Rattle.marks.proofs.mark.Reads as mark_reads
-use Rattle.bank.proofs.Tied.{clear_tied, put_tied, get_tied, patrol_tied, report_tied}
+use Rattle.bank.proofs.Tied.{clear_tied, get_tied, patrol_tied, report_tied}
 use Rattle.marks.proofs.Tied.{mark_tied}
 use Rattle.window.proofs.Tied.{clear_tied as clear_window_tied, propose_tied}
 use Rattle.registers.proofs.Tied.{write_tied, interrupt_tied}
@@ -69,13 +69,16 @@ pub put_called : (κs : Lifetimes.Lfts 2) (a : World.ArgsD put.signature κs) (r
     (s : Clauses.AtExit (Kinds.ended_of 2 put_kinds.ps put_kinds.r) κs) (w : Rest) (win : List ℕ) → put_reads.Learnt κs a r s
     → CallDone (state a.0.now w win) (Call.put a.1.0 a.1.1.0.now)
     (seen (says (outcome_answer r)) [] (state s.0.now w win))
-put_called κs a r s w win l = (outcome_answer r, s.0.now, a.1.1.0.now, put_tied κs a r s l, refl)
+put_called κs a r s w win l = (outcome_answer r, s.0.now, a.1.1.0.now, l, refl)
 
 pub get_called : (κs : Lifetimes.Lfts 3) (a : World.ArgsD get.signature κs) (r : World.ResD get.signature κs)
-    (s : Clauses.AtExit (Kinds.ended_of 3 get_kinds.ps get_kinds.r) κs) (f : List ℕ) → get_reads.Learnt κs a r s
+    (ws : Clauses.Lasts (Kinds.ended_of 3 get_kinds.ps get_kinds.r) κs a) (f : List ℕ)
+    → let s = Clauses.at_exit (Kinds.ended_of 3 get_kinds.ps get_kinds.r) κs a ws in get_reads.Learnt κs a r s
     → CallDone (state a.0.now (with_marks_of f a.1.1.0) a.1.1.1.1.0.now) (Call.get a.1.0 a.1.1.1.0.now)
-    (seen (says (reading_answer r)) s.1.1.1.0.now (state a.0.now (with_marks_of f a.1.1.0) s.1.1.1.1.0.now))
-get_called κs a r s f l = (reading_answer r, a.0.now, s.1.1.1.0.now, s.1.1.1.1.0.now, get_tied κs a r s l, refl)
+    (seen (says (reading_answer r)) s.1.1.1.0.now (state s.0.now (with_marks_of f a.1.1.0) s.1.1.1.1.0.now))
+get_called κs a r ws f l =
+    let s = Clauses.at_exit (Kinds.ended_of 3 get_kinds.ps get_kinds.r) κs a ws in
+    (reading_answer r, s.0.now, s.1.1.1.0.now, s.1.1.1.1.0.now, get_tied κs a r ws l, refl)
 
 pub patrol_called : (κs : Lifetimes.Lfts 2) (a : World.ArgsD patrol.signature κs) (r : World.ResD patrol.signature κs)
     (s : Clauses.AtExit (Kinds.ended_of 2 patrol_kinds.ps patrol_kinds.r) κs) (f : List ℕ) → patrol_reads.Learnt κs a r s
@@ -84,10 +87,13 @@ pub patrol_called : (κs : Lifetimes.Lfts 2) (a : World.ArgsD patrol.signature �
 patrol_called κs a r s f l = (reading_answer r, s.0.now, s.1.1.1.0.now, patrol_tied κs a r s l, refl)
 
 pub report_called : (κs : Lifetimes.Lfts 1) (a : World.ArgsD report.signature κs) (r : World.ResD report.signature κs)
-    (s : Clauses.AtExit (Kinds.ended_of 1 report_kinds.ps report_kinds.r) κs) (f win : List ℕ) → report_reads.Learnt κs a r s
+    (ws : Clauses.Lasts (Kinds.ended_of 1 report_kinds.ps report_kinds.r) κs a) (f win : List ℕ)
+    → let s = Clauses.at_exit (Kinds.ended_of 1 report_kinds.ps report_kinds.r) κs a ws in report_reads.Learnt κs a r s
     → CallDone (state a.0.now (with_marks_of f a.1.0) win) (Call.report)
-    (seen (says (report_answer r)) [] (state a.0.now (with_marks_of f a.1.0) win))
-report_called κs a r s f win l = (report_answer r, a.0.now, report_tied κs a r s l, refl)
+    (seen (says (report_answer r)) [] (state s.0.now (with_marks_of f a.1.0) win))
+report_called κs a r ws f win l =
+    let s = Clauses.at_exit (Kinds.ended_of 1 report_kinds.ps report_kinds.r) κs a ws in
+    (report_answer r, s.0.now, report_tied κs a r ws l, refl)
 
 pub mark_called : (κs : Lifetimes.Lfts 0) (a : World.ArgsD mark.signature κs) (r : World.ResD mark.signature κs)
     (s : Clauses.AtExit (Kinds.ended_of 0 mark_kinds.ps mark_kinds.r) κs) (bank f win : List ℕ) → mark_reads.Learnt κs a r s
@@ -114,9 +120,10 @@ pub interrupt_called : (κs : Lifetimes.Lfts 0) (a : World.ArgsD interrupt.signa
 interrupt_called κs a r s said out bank win l = interrupt_tied κs a r s l
 
 pub propose_called : (κs : Lifetimes.Lfts 1) (a : World.ArgsD propose.signature κs) (r : World.ResD propose.signature κs)
-    (s : Clauses.AtExit (Kinds.ended_of 1 propose_kinds.ps propose_kinds.r) κs) (said : Said) (out bank f : List ℕ) → propose_reads.Learnt κs a r s
-    → (r ≡ (seen said out (state bank (with_marks_of f a.1.0) a.0.now)).proposal) × (a.0.now ≡ a.0.now)
-propose_called κs a r s said out bank f l = let d = propose_tied κs a r s l in (d.proposed, d.kept)
+    (ws : Clauses.Lasts (Kinds.ended_of 1 propose_kinds.ps propose_kinds.r) κs a) (said : Said) (out bank f : List ℕ)
+    → let s = Clauses.at_exit (Kinds.ended_of 1 propose_kinds.ps propose_kinds.r) κs a ws in propose_reads.Learnt κs a r s
+    → (r ≡ (seen said out (state bank (with_marks_of f a.1.0) a.0.now)).proposal) × (s.0.now ≡ a.0.now)
+propose_called κs a r ws said out bank f l = let d = propose_tied κs a r ws l in (d.proposed, d.kept)
 
 pub hit_done : (σ : State) (i x : ℕ) → i < length σ.bank → x < 256 → EntryDone σ (hit i x)
     (seen nothing_said [] (state (set σ.bank i x) σ.rest σ.window))

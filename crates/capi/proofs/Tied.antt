@@ -68,20 +68,20 @@ use Rattle.capi.proofs.livomashen_read_slip.Reads as read_slip_reads
 
 -- store: record, output
 pub store_tied : (κs : Lifetimes.Lfts 2) (a : World.ArgsD store.signature κs) (r : World.ResD store.signature κs)
-    (s : Clauses.AtExit (Kinds.ended_of 2 store_kinds.ps store_kinds.r) κs)
-    → store_reads.Learnt κs a r s
-    → StoreCoded a.0.now a.1.0.now r a.0.now s.1.0.now
-store_tied κs a r s l = l
+    (ws : Clauses.Lasts (Kinds.ended_of 2 store_kinds.ps store_kinds.r) κs a)
+    → let s = Clauses.at_exit (Kinds.ended_of 2 store_kinds.ps store_kinds.r) κs a ws in store_reads.Learnt κs a r s
+    → StoreCoded a.0.now a.1.0.now r s.0.now s.1.0.now
+store_tied κs a r ws l = l
 
 pub store_asks : (κs : Lifetimes.Lfts 2) (a : World.ArgsD store.signature κs) → store_reads.Asked κs a
 store_asks κs a = tt
 
 -- read: block, marks, output
 pub read_tied : (κs : Lifetimes.Lfts 3) (a : World.ArgsD read.signature κs) (r : World.ResD read.signature κs)
-    (s : Clauses.AtExit (Kinds.ended_of 3 read_kinds.ps read_kinds.r) κs)
-    → read_reads.Learnt κs a r s
-    → ReadCoded a.0.now a.1.0.now a.1.1.0.now r a.0.now a.1.0.now s.1.1.0.now
-read_tied κs a r s l = l
+    (ws : Clauses.Lasts (Kinds.ended_of 3 read_kinds.ps read_kinds.r) κs a)
+    → let s = Clauses.at_exit (Kinds.ended_of 3 read_kinds.ps read_kinds.r) κs a ws in read_reads.Learnt κs a r s
+    → ReadCoded a.0.now a.1.0.now a.1.1.0.now r s.0.now s.1.0.now s.1.1.0.now
+read_tied κs a r ws l = l
 
 pub read_asks : (κs : Lifetimes.Lfts 3) (a : World.ArgsD read.signature κs) → read_reads.Asked κs a
 read_asks κs a = tt
@@ -98,41 +98,41 @@ clear_asks κs a = tt
 
 -- put: bank, block number, record
 pub put_tied : (κs : Lifetimes.Lfts 2) (a : World.ArgsD put.signature κs) (r : World.ResD put.signature κs)
-    (s : Clauses.AtExit (Kinds.ended_of 2 put_kinds.ps put_kinds.r) κs)
-    → put_reads.Learnt κs a r s
-    → PutCoded a.0.now a.1.0 a.1.1.0.now r s.0.now a.1.1.0.now
-put_tied κs a r s l = l
+    (ws : Clauses.Lasts (Kinds.ended_of 2 put_kinds.ps put_kinds.r) κs a)
+    → let s = Clauses.at_exit (Kinds.ended_of 2 put_kinds.ps put_kinds.r) κs a ws in put_reads.Learnt κs a r s
+    → PutCoded a.0.now a.1.0 a.1.1.0.now r s.0.now s.1.1.0.now
+put_tied κs a r ws l = l
 
 pub put_asks : (κs : Lifetimes.Lfts 2) (a : World.ArgsD put.signature κs) → put_reads.Asked κs a
 put_asks κs a = tt
 
 -- get: bank, block number, marks, output, window
 pub get_tied : (κs : Lifetimes.Lfts 4) (a : World.ArgsD get.signature κs) (r : World.ResD get.signature κs)
-    (s : Clauses.AtExit (Kinds.ended_of 4 get_kinds.ps get_kinds.r) κs)
-    → get_reads.Learnt κs a r s
-    → GetCoded a.0.now a.1.0 a.1.1.0.now a.1.1.1.0.now a.1.1.1.1.0.now r a.0.now a.1.1.0.now
+    (ws : Clauses.Lasts (Kinds.ended_of 4 get_kinds.ps get_kinds.r) κs a)
+    → let s = Clauses.at_exit (Kinds.ended_of 4 get_kinds.ps get_kinds.r) κs a ws in get_reads.Learnt κs a r s
+    → GetCoded a.0.now a.1.0 a.1.1.0.now a.1.1.1.0.now a.1.1.1.1.0.now r s.0.now s.1.1.0.now
     s.1.1.1.0.now s.1.1.1.1.0.now
-get_tied κs a r s l = l
+get_tied κs a r ws l = l
 
 pub get_asks : (κs : Lifetimes.Lfts 4) (a : World.ArgsD get.signature κs) → get_reads.Asked κs a
 get_asks κs a = tt
 
 -- patrol: bank, block number, marks, window
 pub patrol_tied : (κs : Lifetimes.Lfts 3) (a : World.ArgsD patrol.signature κs) (r : World.ResD patrol.signature κs)
-    (s : Clauses.AtExit (Kinds.ended_of 3 patrol_kinds.ps patrol_kinds.r) κs)
-    → patrol_reads.Learnt κs a r s
-    → PatrolCoded a.0.now a.1.0 a.1.1.0.now a.1.1.1.0.now r s.0.now a.1.1.0.now s.1.1.1.0.now
-patrol_tied κs a r s l = l
+    (ws : Clauses.Lasts (Kinds.ended_of 3 patrol_kinds.ps patrol_kinds.r) κs a)
+    → let s = Clauses.at_exit (Kinds.ended_of 3 patrol_kinds.ps patrol_kinds.r) κs a ws in patrol_reads.Learnt κs a r s
+    → PatrolCoded a.0.now a.1.0 a.1.1.0.now a.1.1.1.0.now r s.0.now s.1.1.0.now s.1.1.1.0.now
+patrol_tied κs a r ws l = l
 
 pub patrol_asks : (κs : Lifetimes.Lfts 3) (a : World.ArgsD patrol.signature κs) → patrol_reads.Asked κs a
 patrol_asks κs a = tt
 
 -- report: bank, marks
 pub report_tied : (κs : Lifetimes.Lfts 2) (a : World.ArgsD report.signature κs) (r : World.ResD report.signature κs)
-    (s : Clauses.AtExit (Kinds.ended_of 2 report_kinds.ps report_kinds.r) κs)
-    → report_reads.Learnt κs a r s
-    → ReportCoded a.0.now a.1.0.now r a.0.now a.1.0.now
-report_tied κs a r s l = l
+    (ws : Clauses.Lasts (Kinds.ended_of 2 report_kinds.ps report_kinds.r) κs a)
+    → let s = Clauses.at_exit (Kinds.ended_of 2 report_kinds.ps report_kinds.r) κs a ws in report_reads.Learnt κs a r s
+    → ReportCoded a.0.now a.1.0.now r s.0.now s.1.0.now
+report_tied κs a r ws l = l
 
 pub report_asks : (κs : Lifetimes.Lfts 2) (a : World.ArgsD report.signature κs) → report_reads.Asked κs a
 report_asks κs a = tt
@@ -190,20 +190,20 @@ write_register_asks κs a = tt
 
 -- read register: registers, address
 pub read_register_tied : (κs : Lifetimes.Lfts 1) (a : World.ArgsD read_register.signature κs) (r : World.ResD read_register.signature κs)
-    (s : Clauses.AtExit (Kinds.ended_of 1 read_register_kinds.ps read_register_kinds.r) κs)
-    → read_register_reads.Learnt κs a r s
-    → RegisterCoded a.0.now a.1.0 r a.0.now
-read_register_tied κs a r s l = l
+    (ws : Clauses.Lasts (Kinds.ended_of 1 read_register_kinds.ps read_register_kinds.r) κs a)
+    → let s = Clauses.at_exit (Kinds.ended_of 1 read_register_kinds.ps read_register_kinds.r) κs a ws in read_register_reads.Learnt κs a r s
+    → RegisterCoded a.0.now a.1.0 r s.0.now
+read_register_tied κs a r ws l = l
 
 pub read_register_asks : (κs : Lifetimes.Lfts 1) (a : World.ArgsD read_register.signature κs) → read_register_reads.Asked κs a
 read_register_asks κs a = tt
 
 -- interrupt: registers
 pub interrupt_tied : (κs : Lifetimes.Lfts 1) (a : World.ArgsD interrupt.signature κs) (r : World.ResD interrupt.signature κs)
-    (s : Clauses.AtExit (Kinds.ended_of 1 interrupt_kinds.ps interrupt_kinds.r) κs)
-    → interrupt_reads.Learnt κs a r s
-    → InterruptCoded a.0.now r a.0.now
-interrupt_tied κs a r s l = l
+    (ws : Clauses.Lasts (Kinds.ended_of 1 interrupt_kinds.ps interrupt_kinds.r) κs a)
+    → let s = Clauses.at_exit (Kinds.ended_of 1 interrupt_kinds.ps interrupt_kinds.r) κs a ws in interrupt_reads.Learnt κs a r s
+    → InterruptCoded a.0.now r s.0.now
+interrupt_tied κs a r ws l = l
 
 pub interrupt_asks : (κs : Lifetimes.Lfts 1) (a : World.ArgsD interrupt.signature κs) → interrupt_reads.Asked κs a
 interrupt_asks κs a = tt
@@ -220,10 +220,10 @@ clear_window_asks κs a = tt
 
 -- propose: window, marks
 pub propose_tied : (κs : Lifetimes.Lfts 2) (a : World.ArgsD propose.signature κs) (r : World.ResD propose.signature κs)
-    (s : Clauses.AtExit (Kinds.ended_of 2 propose_kinds.ps propose_kinds.r) κs)
-    → propose_reads.Learnt κs a r s
-    → ProposeCoded a.0.now a.1.0.now r a.0.now a.1.0.now
-propose_tied κs a r s l = l
+    (ws : Clauses.Lasts (Kinds.ended_of 2 propose_kinds.ps propose_kinds.r) κs a)
+    → let s = Clauses.at_exit (Kinds.ended_of 2 propose_kinds.ps propose_kinds.r) κs a ws in propose_reads.Learnt κs a r s
+    → ProposeCoded a.0.now a.1.0.now r s.0.now s.1.0.now
+propose_tied κs a r ws l = l
 
 pub propose_asks : (κs : Lifetimes.Lfts 2) (a : World.ArgsD propose.signature κs) → propose_reads.Asked κs a
 propose_asks κs a = tt
@@ -240,10 +240,10 @@ write_slip_asks κs a = tt
 
 -- read slip: slips, offset
 pub read_slip_tied : (κs : Lifetimes.Lfts 1) (a : World.ArgsD read_slip.signature κs) (r : World.ResD read_slip.signature κs)
-    (s : Clauses.AtExit (Kinds.ended_of 1 read_slip_kinds.ps read_slip_kinds.r) κs)
-    → read_slip_reads.Learnt κs a r s
-    → ReadSlipCoded a.0.now a.1.0 r a.0.now
-read_slip_tied κs a r s l = l
+    (ws : Clauses.Lasts (Kinds.ended_of 1 read_slip_kinds.ps read_slip_kinds.r) κs a)
+    → let s = Clauses.at_exit (Kinds.ended_of 1 read_slip_kinds.ps read_slip_kinds.r) κs a ws in read_slip_reads.Learnt κs a r s
+    → ReadSlipCoded a.0.now a.1.0 r s.0.now
+read_slip_tied κs a r ws l = l
 
 pub read_slip_asks : (κs : Lifetimes.Lfts 1) (a : World.ArgsD read_slip.signature κs) → read_slip_reads.Asked κs a
 read_slip_asks κs a = tt

@@ -2,24 +2,25 @@
 --
 --   accepted    a code of 0 is given only where nothing is refused
 --   four        then the bytes were four
---   written     the bytes of the new record, copied over them; left: on a refusal nothing is written
+--   written     the bytes of the new record, copied over them (written_whole: by a copy of the whole); left: on a refusal nothing is written
 --   marked_done what is said of the bytes is what the library says of the record in them
 --   write_back, write_left    a register write: the bytes of the registers after it; on a refusal nothing is written
 --   write_done  what is said of the twelve bytes is what the library says of the registers in them
 use Prim.Native.Nat.{ℕ, zero, suc}
 use mathlib.Core.Logic.{◌≢◌, by_cases}
-use mathlib.Core.Path.{◌≡◌, refl, sym, ap, ◌∙◌, subst}
-use mathlib.Core.List.{List}
+use mathlib.Core.Path.{◌≡◌, refl, sym, ap, ap₂, ◌∙◌, subst}
+use mathlib.Core.List.{List, ◌++◌, append-nil}
 use native.Mathlib.Decide.{ℕ_discrete}
 use native.Mathlib.Omega.{arith}
-use lib.ListN.{length}
+use lib.ListN.{length, take, drop}
+use lib.Seq.{take-length, drop-length}
 use Rattle.answer.specs.Answer.{Answer, done, By}
 use Rattle.answer.proofs.Causes.{by_done, by_map}
 use Rattle.marks.specs.Marks.{bytes, marks_in}
 use Rattle.marks.specs.Mark.{marked, mark_cause, MarkDone}
 use Rattle.marks.specs.declared.Marks.{Marks}
 use Rattle.marks.specs.declared.MarkCall.{MarkCall}
-use Rattle.marks.proofs.Laws.{lawful_cause, marks_in_bytes, marks_in_other, can, mark_done, marked_lawful}
+use Rattle.marks.proofs.Laws.{lawful_cause, four_long, marks_in_bytes, marks_in_other, can, mark_done, marked_lawful}
 use Rattle.registers.specs.Registers.{register_bytes, registers_in}
 use Rattle.registers.specs.Write.{write_cause, WriteDone}
 use Rattle.registers.specs.declared.Registers.{Registers}
@@ -45,11 +46,18 @@ module _ (b : List ℕ) (call : MarkCall) (m : Marks) (a : Answer) (m' : Marks) 
   four z = by_cases (ℕ_discrete (length b) 4) (λ e. e)
       (λ n. absurd (omega (arith, marks_in_other b n, lawful_cause (marks_in b) (can (marks_in b) call (no_cause z)).lawful)))
 
-  pub written : c ≡ 0 → (new b' : List ℕ) → new ≡ bytes m' → b' ≡ new → MarkCoded b call c b'
-  written z new b' h w = record { answer = a; says = by_done _ a _ _ (no_cause z) (d.0, w ∙ h ∙ ap bytes d.1); coded = coded }
+  pub written_whole : c ≡ 0 → (new b' : List ℕ) → new ≡ bytes m' → b' ≡ new → MarkCoded b call c b'
+  written_whole z new b' h w = record { answer = a; says = by_done _ a _ _ (no_cause z) (d.0, w ∙ h ∙ ap bytes d.1); coded = coded }
     where
       d : (a ≡ done) × (m' ≡ marked (marks_in b) call)
       d = mark_done (marks_in b) call a m' (no_cause z) on_bytes
+
+  pub written : c ≡ 0 → (new b' : List ℕ) → new ≡ bytes m' → b' ≡ take (length new) new ++ drop (length new) b → MarkCoded b call c b'
+  written z new b' h w = written_whole z (bytes m') b' refl copied
+    where
+      copied : b' ≡ bytes m'
+      copied =
+          w ∙ ap₂ ◌++◌ (take-length new ∙ h) (ap (λ (k : ℕ). drop k b) (ap length h ∙ four_long m' ∙ sym (four z)) ∙ drop-length b) ∙ append-nil (bytes m')
 
   pub left : c ≢ 0 → MarkCoded b call c b
   unfolding MarkDone

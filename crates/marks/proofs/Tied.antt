@@ -44,9 +44,10 @@ pub fresh_asks : (κs : Lifetimes.Lfts 0) (a : World.ArgsD fresh.signature κs) 
 fresh_asks κs a = tt
 
 pub from_slice_tied : (κs : Lifetimes.Lfts 1) (a : World.ArgsD from_slice.signature κs) (r : World.ResD from_slice.signature κs)
-    (s : Clauses.AtExit (Kinds.ended_of 1 from_slice_kinds.ps from_slice_kinds.r) κs) → from_slice_reads.Learnt κs a r s
-    → (r ≡ marks_in a.0.now) × (a.0.now ≡ a.0.now)
-from_slice_tied κs a r s l = l
+    (ws : Clauses.Lasts (Kinds.ended_of 1 from_slice_kinds.ps from_slice_kinds.r) κs a)
+    → let s = Clauses.at_exit (Kinds.ended_of 1 from_slice_kinds.ps from_slice_kinds.r) κs a ws in from_slice_reads.Learnt κs a r s
+    → (r ≡ marks_in a.0.now) × (s.0.now ≡ a.0.now)
+from_slice_tied κs a r ws l = l
 
 pub from_slice_asks : (κs : Lifetimes.Lfts 1) (a : World.ArgsD from_slice.signature κs) → from_slice_reads.Asked κs a
 from_slice_asks κs a = tt

@@ -11,9 +11,10 @@ use Rattle.program.proofs.say.Reads as say_reads
 
 -- input, output
 pub say_tied : (κs : Lifetimes.Lfts 2) (a : World.ArgsD say.signature κs) (r : World.ResD say.signature κs)
-    (s : Clauses.AtExit (Kinds.ended_of 2 say_kinds.ps say_kinds.r) κs) → say_reads.Learnt κs a r s
-    → SayDone a.0.now a.1.0.now r a.0.now s.1.0.now
-say_tied κs a r s l = l
+    (ws : Clauses.Lasts (Kinds.ended_of 2 say_kinds.ps say_kinds.r) κs a)
+    → let s = Clauses.at_exit (Kinds.ended_of 2 say_kinds.ps say_kinds.r) κs a ws in say_reads.Learnt κs a r s
+    → SayDone a.0.now a.1.0.now r s.0.now s.1.0.now
+say_tied κs a r ws l = l
 
 pub say_asks : (κs : Lifetimes.Lfts 2) (a : World.ArgsD say.signature κs) → say_reads.Asked κs a
 say_asks κs a = tt

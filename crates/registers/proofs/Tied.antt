@@ -61,9 +61,10 @@ pub fresh_asks : (κs : Lifetimes.Lfts 0) (a : World.ArgsD fresh.signature κs) 
 fresh_asks κs a = tt
 
 pub from_bytes_tied : (κs : Lifetimes.Lfts 1) (a : World.ArgsD from_bytes.signature κs) (r : World.ResD from_bytes.signature κs)
-    (s : Clauses.AtExit (Kinds.ended_of 1 from_bytes_kinds.ps from_bytes_kinds.r) κs) → from_bytes_reads.Learnt κs a r s
-    → (r ≡ registers_in a.0.now) × (a.0.now ≡ a.0.now)
-from_bytes_tied κs a r s l = l
+    (ws : Clauses.Lasts (Kinds.ended_of 1 from_bytes_kinds.ps from_bytes_kinds.r) κs a)
+    → let s = Clauses.at_exit (Kinds.ended_of 1 from_bytes_kinds.ps from_bytes_kinds.r) κs a ws in from_bytes_reads.Learnt κs a r s
+    → (r ≡ registers_in a.0.now) × (s.0.now ≡ a.0.now)
+from_bytes_tied κs a r ws l = l
 
 pub from_bytes_asks : (κs : Lifetimes.Lfts 1) (a : World.ArgsD from_bytes.signature κs) → from_bytes_reads.Asked κs a
 from_bytes_asks κs a = tt

@@ -27,10 +27,10 @@ write_asks κs a = tt
 
 -- read: slice, offset
 pub read_tied : (κs : Lifetimes.Lfts 1) (a : World.ArgsD read.signature κs) (r : World.ResD read.signature κs)
-    (s : Clauses.AtExit (Kinds.ended_of 1 read_kinds.ps read_kinds.r) κs)
-    → read_reads.Learnt κs a r s
-    → ReadSlipDone a.0.now a.1.0 r a.0.now
-read_tied κs a r s l = l
+    (ws : Clauses.Lasts (Kinds.ended_of 1 read_kinds.ps read_kinds.r) κs a)
+    → let s = Clauses.at_exit (Kinds.ended_of 1 read_kinds.ps read_kinds.r) κs a ws in read_reads.Learnt κs a r s
+    → ReadSlipDone a.0.now a.1.0 r s.0.now
+read_tied κs a r ws l = l
 
 pub read_asks : (κs : Lifetimes.Lfts 1) (a : World.ArgsD read.signature κs) → read_reads.Asked κs a
 read_asks κs a = tt

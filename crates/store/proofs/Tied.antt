@@ -16,9 +16,9 @@ use Rattle.store.proofs.store.Reads as store_reads
 
 -- record, output
 pub store_tied : (κs : Lifetimes.Lfts 2) (a : World.ArgsD store.signature κs) (r : World.ResD store.signature κs)
-    (s : Clauses.AtExit (Kinds.ended_of 2 store_kinds.ps store_kinds.r) κs)
-    → store_reads.Learnt κs a r s → StoreDone a.0.now a.1.0.now (outcome_answer r) a.0.now s.1.0.now
-store_tied κs a r s l = l
+    (ws : Clauses.Lasts (Kinds.ended_of 2 store_kinds.ps store_kinds.r) κs a)
+    → let s = Clauses.at_exit (Kinds.ended_of 2 store_kinds.ps store_kinds.r) κs a ws in store_reads.Learnt κs a r s → StoreDone a.0.now a.1.0.now (outcome_answer r) s.0.now s.1.0.now
+store_tied κs a r ws l = l
 
 pub store_asks : (κs : Lifetimes.Lfts 2) (a : World.ArgsD store.signature κs) → store_reads.Asked κs a
 store_asks κs a = tt

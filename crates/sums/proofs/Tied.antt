@@ -37,17 +37,19 @@ use Rattle.sums.proofs.built_in.four_left.Kinds as four_left_kinds
 use Rattle.sums.proofs.built_in.four_left.Reads as four_left_reads
 
 pub of_block_tied : (κs : Lifetimes.Lfts 1) (a : World.ArgsD of_block.signature κs) (r : World.ResD of_block.signature κs)
-    (s : Clauses.AtExit (Kinds.ended_of 1 of_block_kinds.ps of_block_kinds.r) κs) → of_block_reads.Learnt κs a r s
-    → BlockSums a.0.now r a.0.now
-of_block_tied κs a r s l = l
+    (ws : Clauses.Lasts (Kinds.ended_of 1 of_block_kinds.ps of_block_kinds.r) κs a)
+    → let s = Clauses.at_exit (Kinds.ended_of 1 of_block_kinds.ps of_block_kinds.r) κs a ws in of_block_reads.Learnt κs a r s
+    → BlockSums a.0.now r s.0.now
+of_block_tied κs a r ws l = l
 
 pub of_block_asks : (κs : Lifetimes.Lfts 1) (a : World.ArgsD of_block.signature κs) → of_block_reads.Asked κs a
 of_block_asks κs a = tt
 
 pub of_record_tied : (κs : Lifetimes.Lfts 1) (a : World.ArgsD of_record.signature κs) (r : World.ResD of_record.signature κs)
-    (s : Clauses.AtExit (Kinds.ended_of 1 of_record_kinds.ps of_record_kinds.r) κs) → of_record_reads.Learnt κs a r s
-    → RecordSums a.0.now r a.0.now
-of_record_tied κs a r s l = l
+    (ws : Clauses.Lasts (Kinds.ended_of 1 of_record_kinds.ps of_record_kinds.r) κs a)
+    → let s = Clauses.at_exit (Kinds.ended_of 1 of_record_kinds.ps of_record_kinds.r) κs a ws in of_record_reads.Learnt κs a r s
+    → RecordSums a.0.now r s.0.now
+of_record_tied κs a r ws l = l
 
 pub of_record_asks : (κs : Lifetimes.Lfts 1) (a : World.ArgsD of_record.signature κs) → of_record_reads.Asked κs a
 of_record_asks κs a = tt
@@ -101,9 +103,10 @@ pub next_card_asks : (κs : Lifetimes.Lfts 0) (a : World.ArgsD next_card.signatu
 next_card_asks κs a = tt
 
 pub four_left_tied : (κs : Lifetimes.Lfts 1) (a : World.ArgsD four_left.signature κs) (r : World.ResD four_left.signature κs)
-    (s : Clauses.AtExit (Kinds.ended_of 1 four_left_kinds.ps four_left_kinds.r) κs) → four_left_reads.Learnt κs a r s
-    → FourLeft a.0.now r a.0.now
-four_left_tied κs a r s l = l
+    (ws : Clauses.Lasts (Kinds.ended_of 1 four_left_kinds.ps four_left_kinds.r) κs a)
+    → let s = Clauses.at_exit (Kinds.ended_of 1 four_left_kinds.ps four_left_kinds.r) κs a ws in four_left_reads.Learnt κs a r s
+    → FourLeft a.0.now r s.0.now
+four_left_tied κs a r ws l = l
 
 pub four_left_asks : (κs : Lifetimes.Lfts 1) (a : World.ArgsD four_left.signature κs) → four_left_reads.Asked κs a
 four_left_asks κs a = tt

@@ -23,9 +23,10 @@ use Rattle.text.proofs.number_line.Reads as number_line_reads
 
 -- piece, output, place
 pub put_tied : (κs : Lifetimes.Lfts 2) (a : World.ArgsD put.signature κs) (r : World.ResD put.signature κs)
-    (s : Clauses.AtExit (Kinds.ended_of 2 put_kinds.ps put_kinds.r) κs) → put_reads.Learnt κs a r s
-    → Put a.0.now a.1.0.now a.1.1.0 r s.1.0.now × (a.0.now ≡ a.0.now)
-put_tied κs a r s l = l
+    (ws : Clauses.Lasts (Kinds.ended_of 2 put_kinds.ps put_kinds.r) κs a)
+    → let s = Clauses.at_exit (Kinds.ended_of 2 put_kinds.ps put_kinds.r) κs a ws in put_reads.Learnt κs a r s
+    → Put a.0.now a.1.0.now a.1.1.0 r s.1.0.now × (s.0.now ≡ a.0.now)
+put_tied κs a r ws l = l
 
 pub put_asks : (κs : Lifetimes.Lfts 2) (a : World.ArgsD put.signature κs) → put_reads.Asked κs a
 put_asks κs a = tt
@@ -41,18 +42,20 @@ number_asks κs a = tt
 
 -- word, number, output, place
 pub labelled_tied : (κs : Lifetimes.Lfts 2) (a : World.ArgsD labelled.signature κs) (r : World.ResD labelled.signature κs)
-    (s : Clauses.AtExit (Kinds.ended_of 2 labelled_kinds.ps labelled_kinds.r) κs) → labelled_reads.Learnt κs a r s
-    → Put (a.0.now ++ decimal a.1.0) a.1.1.0.now a.1.1.1.0 r s.1.1.0.now × (a.0.now ≡ a.0.now)
-labelled_tied κs a r s l = l
+    (ws : Clauses.Lasts (Kinds.ended_of 2 labelled_kinds.ps labelled_kinds.r) κs a)
+    → let s = Clauses.at_exit (Kinds.ended_of 2 labelled_kinds.ps labelled_kinds.r) κs a ws in labelled_reads.Learnt κs a r s
+    → Put (a.0.now ++ decimal a.1.0) a.1.1.0.now a.1.1.1.0 r s.1.1.0.now × (s.0.now ≡ a.0.now)
+labelled_tied κs a r ws l = l
 
 pub labelled_asks : (κs : Lifetimes.Lfts 2) (a : World.ArgsD labelled.signature κs) → labelled_reads.Asked κs a
 labelled_asks κs a = tt
 
 -- word, number, output, place
 pub number_line_tied : (κs : Lifetimes.Lfts 2) (a : World.ArgsD number_line.signature κs) (r : World.ResD number_line.signature κs)
-    (s : Clauses.AtExit (Kinds.ended_of 2 number_line_kinds.ps number_line_kinds.r) κs) → number_line_reads.Learnt κs a r s
-    → Put (a.0.now ++ (decimal a.1.0 ++ ascii "\n")) a.1.1.0.now a.1.1.1.0 r s.1.1.0.now × (a.0.now ≡ a.0.now)
-number_line_tied κs a r s l = l
+    (ws : Clauses.Lasts (Kinds.ended_of 2 number_line_kinds.ps number_line_kinds.r) κs a)
+    → let s = Clauses.at_exit (Kinds.ended_of 2 number_line_kinds.ps number_line_kinds.r) κs a ws in number_line_reads.Learnt κs a r s
+    → Put (a.0.now ++ (decimal a.1.0 ++ ascii "\n")) a.1.1.0.now a.1.1.1.0 r s.1.1.0.now × (s.0.now ≡ a.0.now)
+number_line_tied κs a r ws l = l
 
 pub number_line_asks : (κs : Lifetimes.Lfts 2) (a : World.ArgsD number_line.signature κs) → number_line_reads.Asked κs a
 number_line_asks κs a = tt

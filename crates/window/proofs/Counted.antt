@@ -1,16 +1,17 @@
 -- How often each byte stands in a list, as the code counts it.
 --
 --   times_append                              in two lists, one after the other
---   none_counted, one_counted                 the loop that counts, those before i; count_le: no count is above the number passed
+--   none_counted, one_counted, all_counted    the loop that counts, those before i; count_le: no count is above the number passed
+--   few_more                                  the loop that seeks four or more
 use mathlib.Core.Logic.{◌≢◌, ◌⊎◌, inl, inr}
-use mathlib.Core.Path.{◌≡◌, refl, sym, ap, ◌∙◌}
+use mathlib.Core.Path.{◌≡◌, refl, sym, ap, ◌∙◌, subst}
 use mathlib.Core.List.{List, [], ◌∷◌, ◌++◌}
 use Prim.Native.Nat.{ℕ, ◌+◌, ◌<◌, ◌≤◌}
 use native.Mathlib.Numerals.{add-one}
 use native.Mathlib.Omega.{arith}
 use lib.Dec.{eqb}
 use lib.ListN.{length, take, get_or, set, replicate, length-set, get_or-replicate}
-use lib.Seq.{take-suc, length-take-le, get_or-set_same, get_or-set_other}
+use lib.Seq.{take-suc, take_all, length-take-le, get_or-set_same, get_or-set_other}
 use borrow.Author.Tests.{eq-eqb, ne_eqb}
 use Rattle.base.specs.Base.{bit}
 use Rattle.base.proofs.Tests.{same}
@@ -53,3 +54,15 @@ module _ (w c : List ℕ) (i : ℕ) (h : i < length w) (k : Counts (take i w) c)
         at p d (inr z) =
             let here : bit (eqb a p) ≡ 0 = ap bit (ne_eqb a p (λ y. z (sym y))) in
             get_or-set_other c a p _ 0 z ∙ omega (arith, k.each p d, more p, here)
+
+pub all_counted : (w c : List ℕ) (i : ℕ) → length w ≤ i → Counts (take i w) c → Counts w c
+all_counted w c i h k = subst (λ (l : List ℕ). Counts l c) (take_all i w h) k
+
+-- ---- four or more, by a loop: none from p on and before q
+pub few_more : (c : List ℕ) (p q : ℕ) → ((i : ℕ) → p ≤ i → i < q → get_or c i 0 < 4) → get_or c q 0 < 4
+    → (i : ℕ) → p ≤ i → i < q + 1 → get_or c i 0 < 4
+few_more c p q h f i g b = pick (same i q)
+  where
+    pick : (i ≡ q) ⊎ (i ≢ q) → get_or c i 0 < 4
+    pick (inl e) = omega (arith, ap (λ (j : ℕ). get_or c j 0) e)
+    pick (inr e) = h i g (omega arith)

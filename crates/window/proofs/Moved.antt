@@ -2,20 +2,22 @@
 --
 --   added_behind     what is added stands behind what stays
 --   down n k w       the window w, of which the first k have come down by n places
---   put_from         sixteen bytes moved; down_more: then the first k + 16 have come down
---   put_behind, back_copied   the last sixteen, with eleven bytes behind them
+--   put_down         sixteen bytes by way of sixteen others; down_more: then the first k + 16 have come down
+--   both_long, joined, back_copied   the last sixteen, with eleven bytes behind them; put_behind, back_moved: as a whole copy moves them
 --   all_moved        THE LAW: 48 that have come down, and the last sixteen moved on
 --   take_most        of eleven bytes no more than eleven are taken
 use mathlib.Core.Logic.{◌⊎◌, inl, inr}
-use mathlib.Core.Path.{◌≡◌, sym, ap, ap₂, ◌∙◌}
+use mathlib.Core.Path.{◌≡◌, refl, sym, ap, ap₂, ◌∙◌}
 use mathlib.Core.List.{List, ◌++◌, append_assoc, append-nil}
 use Prim.Native.Nat.{ℕ, ◌+◌, ◌-◌, ◌<◌, ◌≤◌, min}
 use native.Mathlib.Omega.{arith}
-use lib.ListN.{length, take, drop, length-drop, drop_of_length-le, take-append-drop}
+use lib.ListN.{length, take, drop, replicate, length-append, length-drop, drop_of_length-le, take-append-drop}
 use lib.Seq.{drop-append-le, drop-append-add, drop-drop, take-append-add, length-take-le, take-add, take_all, take_at, drop_at}
-use borrow.Rule.Slice.PartMut.{mid_of, put_mid}
+use borrow.Rule.Slice.PartMut.{mid_of, put_mid, Post-is}
+use Rattle.base.proofs.Lists.{copied, piece, piece_long, by_way}
 use Rattle.base.proofs.Tests.{lt_or_le}
 use Rattle.window.specs.Window.{added}
+use Rattle.window.proofs.Runs.{added_long}
 
 -- what is added to a list stands behind it, and as many have left
 added_behind : (w at : List ℕ) (n : ℕ) → n ≤ length w → n ≤ length at → added w (take n at) ≡ drop n w ++ take n at
@@ -29,6 +31,18 @@ down n k w = take k (drop n w) ++ drop k w
 -- the sixteen bytes from k + n on, put to k
 abbrev pub put_from : ℕ → ℕ → List ℕ → List ℕ
 put_from n k w = take k w ++ (take 16 (drop (k + n) w) ++ drop (k + 16) w)
+
+pub put_down : (w p x : List ℕ) (k n : ℕ) → length w ≡ 64 → k + n + 16 ≤ 64
+    → p ≡ take (length (piece (k + n) w)) (piece (k + n) w) ++ drop (length (piece (k + n) w)) (replicate 16 0)
+    → x ≡ take (length p) p ++ drop (length p) (piece k w) → put_mid k (k + 16 - k) w x ≡ put_from n k w
+put_down w p x k n l h e f = ap₂ (λ (u v : List ℕ). take k w ++ (u ++ v)) (there ∙ sixteen) (Post-is k (k + 16) w (omega arith))
+  where
+    there : x ≡ piece (k + n) w
+    there =
+        by_way (piece (k + n) w) (piece k w) p x (piece_long (k + n) w (omega (arith, l, h))) (piece_long k w (omega (arith, l, h))) e f
+
+    sixteen : piece (k + n) w ≡ take 16 (drop (k + n) w)
+    sixteen = ap (λ (m : ℕ). take m (drop (k + n) w)) (let q : k + n + 16 - (k + n) ≡ 16 = omega arith in q)
 
 -- nothing that is still to come down has been written
 pub down_more : (w x : List ℕ) (k n : ℕ) → length w ≡ 64 → k + n + 16 ≤ 64 → x ≡ down n k w → put_from n k x ≡ down n (k + 16) w
@@ -66,11 +80,30 @@ put_behind w z at x y l lz e f =
     rw (e, f) (ap₂ (λ (a b : List ℕ). a ++ (at ++ b)) (take_at w z 16 l) (ap (drop 11) (drop_at w z 16 l) ∙ drop_of_length-le z {i = 11} (omega arith))
     ∙ ap (λ (k : List ℕ). w ++ k) (append-nil at))
 
-pub back_copied : (w at run x : List ℕ) (n : ℕ) → length w ≡ 16 → length at ≡ 11 → n ≤ 11 → run ≡ w ++ at → x ≡ mid_of n (n + 16 - n) run
-    → x ≡ added w (take n at)
-back_copied w at run x n l a h e f =
-    let q : n + 16 - n ≡ 16 = omega arith in
-    f ∙ ap (λ (k : List ℕ). mid_of n (n + 16 - n) k) e ∙ ap (λ (k : ℕ). take k (drop n (w ++ at))) q ∙ moved_on w at n l a h
+pub both_long : (x z : List ℕ) → length x ≡ 16 → length z ≡ 11 → 27 ≤ length (x ++ z)
+both_long x z l lz = rw (length-append x z) (omega arith)
+
+behind_long : (x z : List ℕ) → length x ≡ 16 → length z ≡ 11 → length (mid_of 16 11 (x ++ z)) ≡ 11
+behind_long x z l lz = ap (λ (k : List ℕ). length (take 11 k)) (drop_at x z 16 l) ∙ length-take-le 11 z (omega arith)
+
+-- sixteen bytes and eleven, each copied over as many
+pub joined : (w at x y : List ℕ) → length w ≡ 16 → length at ≡ 11 → x ≡ take (length w) w ++ drop (length w) (replicate 16 0) → length x ≡ 16
+    → y ≡ take (length at) at ++ drop (length at) (mid_of 16 11 (x ++ replicate 11 0)) → put_mid 16 11 (x ++ replicate 11 0) y ≡ w ++ at
+joined w at x y l a e k f =
+    put_behind w (replicate 11 0) at x y l refl (copied w (replicate 16 0) x (sym l) e)
+    (copied at (mid_of 16 11 (x ++ replicate 11 0)) y (behind_long x (replicate 11 0) k refl ∙ sym a) f)
+
+pub back_copied : (w at run x : List ℕ) (n : ℕ) → length w ≡ 16 → length at ≡ 11 → n ≤ 11 → run ≡ w ++ at
+    → x ≡ take (length (mid_of n (n + 16 - n) run)) (mid_of n (n + 16 - n) run) ++ drop (length (mid_of n (n + 16 - n) run)) w → x ≡ added w (take n at)
+back_copied w at run x n l a h e f = copied (mid_of n (n + 16 - n) run) w x (l ∙ sym long) f ∙ is
+  where
+    is : mid_of n (n + 16 - n) run ≡ added w (take n at)
+    is =
+        let q : n + 16 - n ≡ 16 = omega arith in
+        ap (λ (k : List ℕ). mid_of n (n + 16 - n) k) e ∙ ap (λ (k : ℕ). take k (drop n (w ++ at))) q ∙ moved_on w at n l a h
+
+    long : length (mid_of n (n + 16 - n) run) ≡ 16
+    long = ap length is ∙ added_long w (take n at) ∙ l
 
 -- ---- all of it
 pub all_moved : (w at x y : List ℕ) (n : ℕ) → length w ≡ 64 → length at ≡ 11 → n ≤ 11 → x ≡ down n 48 w → y ≡ added (mid_of 48 16 x) (take n at)
@@ -108,3 +141,9 @@ take_most at n a = pick (lt_or_le 11 n)
     pick (inl h) =
         ap (λ (k : ℕ). take k at) (let q : min n 11 ≡ 11 = omega arith in q) ∙ take_all 11 at (omega arith) ∙ sym (take_all n at (omega arith))
     pick (inr h) = ap (λ (k : ℕ). take k at) (let q : min n 11 ≡ n = omega arith in q)
+
+pub back_moved : (w at run x : List ℕ) (n : ℕ) → length w ≡ 16 → length at ≡ 11 → n ≤ 11 → run ≡ w ++ at → x ≡ mid_of n (n + 16 - n) run
+    → x ≡ added w (take n at)
+back_moved w at run x n l a h e f =
+    let q : n + 16 - n ≡ 16 = omega arith in
+    f ∙ ap (λ (k : List ℕ). mid_of n (n + 16 - n) k) e ∙ ap (λ (k : ℕ). take k (drop n (w ++ at))) q ∙ moved_on w at n l a h

@@ -43,9 +43,10 @@ pub add_asks : (κs : Lifetimes.Lfts 1) (a : World.ArgsD add.signature κs) → 
 add_asks κs a = tt
 
 pub propose_tied : (κs : Lifetimes.Lfts 1) (a : World.ArgsD propose.signature κs) (r : World.ResD propose.signature κs)
-    (s : Clauses.AtExit (Kinds.ended_of 1 propose_kinds.ps propose_kinds.r) κs) → propose_reads.Learnt κs a r s
-    → ProposeDone a.0.now a.1.0 r a.0.now
-propose_tied κs a r s l = l
+    (ws : Clauses.Lasts (Kinds.ended_of 1 propose_kinds.ps propose_kinds.r) κs a)
+    → let s = Clauses.at_exit (Kinds.ended_of 1 propose_kinds.ps propose_kinds.r) κs a ws in propose_reads.Learnt κs a r s
+    → ProposeDone a.0.now a.1.0 r s.0.now
+propose_tied κs a r ws l = l
 
 pub propose_asks : (κs : Lifetimes.Lfts 1) (a : World.ArgsD propose.signature κs) → propose_reads.Asked κs a
 propose_asks κs a = tt

@@ -2,7 +2,7 @@
 use mathlib.Core.Path.{ap}
 use native.Mathlib.Omega.{arith}
 use lib.ListN.{length}
-use Rattle.capi.proofs.Written.{four, written, left}
+use Rattle.capi.proofs.Written.{four, written_whole, left}
 use Rattle.capi.proofs.mark.Goals as goal
 
 pub copy_from_slice-requires : goal.copy_from_slice-requires
@@ -11,7 +11,7 @@ copy_from_slice-requires c =
 
 pub returns-then-c-eq0 : goal.returns-then-c-eq0
 returns-then-c-eq0 c =
-    written _ _ _ _ _ _ c.from_slice.ensures.0 c.mark-r.ensures c.of_outcome-c.ensures c.if-c-eq0.true _ _ c.to_bytes.ensures
+    written_whole _ _ _ _ _ _ c.from_slice.ensures.0 c.mark-r.ensures c.of_outcome-c.ensures c.if-c-eq0.true _ _ c.to_bytes.ensures
     c.copy_from_slice.ensures.after
 
 pub returns-else-c-eq0 : goal.returns-else-c-eq0
