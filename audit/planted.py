@@ -6,7 +6,7 @@ import tempfile
 import unittest
 from pathlib import Path
 
-from lowered import ROOT
+from source import ROOT
 
 
 def replaced(path, old, new):
