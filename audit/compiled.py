@@ -14,7 +14,8 @@ import subprocess
 import tempfile
 from pathlib import Path
 
-from source import ROOT, Source, Unread, has_code, listed, needs, root, without_contracts
+from source import (ROOT, ROOTS, Source, Unread, has_code, listed, needs, root,
+                    without_contracts, words)
 from terms import Unreadable
 
 KEPT = ROOT / "built" / "lowered"
@@ -32,20 +33,17 @@ def kit():
 
 # ---- by the compiler
 
-def copied(crates, names, folder):
-    """The source of these crates in a folder, without contracts, and to be tried by no
-    tactic."""
-    for name in names:
-        for path in (crates / name / "src").rglob("*.rt"):
-            to = folder / path.relative_to(crates)
-            to.parent.mkdir(parents=True, exist_ok=True)
-            text = path.read_text()
-            try:
-                text = without_contracts(text)
-            except Unread:
-                pass                # the compiler says what is wrong with it
-            begins = "#![tactic(none)] " if path == root(crates / name) else ""
-            to.write_text(begins + text)
+def plain(crates, names):
+    """The files of these crates, without contracts, by their paths below the crates."""
+    found = {}
+    for path in (path for name in names for path in (crates / name / "src").rglob("*.rt")):
+        text = path.read_text()
+        try:
+            text = without_contracts(text)
+        except Unread:
+            pass                # the compiler says what is wrong with it
+        found[path.relative_to(crates)] = text
+    return found
 
 
 def complaint(said):
@@ -55,44 +53,52 @@ def complaint(said):
     return "\n".join(line[:LONGEST] for line in errors[:MOST])
 
 
-def printed(crates, names, theirs, starts=()):
+def printed(files, theirs, starts=()):
     """The modules with the code of these crates, by the function; or only of these
     functions, which are in the last of the crates.  `theirs` are the kit's."""
     home = kit()
+    named = set().union(*map(words, files.values()))
     with tempfile.TemporaryDirectory() as made:
         folder, to = Path(made) / "crates", Path(made) / "printed"
-        copied(crates, names, folder)
-        roots = {name: root(folder / name) for name in names}
-        if starts:
-            file = roots.pop(names[-1])
-            words = ["--crate-name", names[-1], file]
-        else:
-            file = folder / "all" / "src" / "lib.rt"
-            file.parent.mkdir(parents=True)
-            file.write_text("")
-            words = ["--crate-name", "all", file]
+        for path, text in files.items():
+            (folder / path).parent.mkdir(parents=True, exist_ok=True)
+            begins = "#![tactic(none)] " if path.stem in ROOTS else ""
+            (folder / path).write_text(begins + text)
+        roots = {name: root(folder / name)
+                 for name in dict.fromkeys(path.parts[0] for path in files)}
+        above = Path(made) / "above" / "src" / "lib.rt"     # of all, with nothing in it
+        above.parent.mkdir(parents=True)
+        above.write_text("")
+        name = list(roots)[-1] if starts else "above"
+        asked = ["--crate-name", name, roots.pop(name, above)]
         for name, path in roots.items():
-            words += ["--lib", f"{name}={path}"]
-        for name in theirs:
-            words += ["--extern", f"{name}={home / 'rlibs' / name}.rlib"]
+            asked += ["--lib", f"{name}={path}"]
+        for name in [name for name in theirs if name in named] or ["core"]:
+            asked += ["--extern", f"{name}={home / 'rlibs' / name}.rlib"]
         for name in starts:
-            words += ["--start", name.partition("::")[2]]
-        words += ["-L", f"dependency={home / 'rlibs'}", "--logic-built", home / "logic_built",
-                  "--antt-project", home / "rattle" / "logic" / "antt-project.json"]
-        done = subprocess.run([home / "bin" / "rattle", "check", *words, "--generated", to],
+            asked += ["--start", name.partition("::")[2]]
+        asked += ["-L", f"dependency={home / 'rlibs'}", "--logic-built", home / "logic_built",
+                   "--antt-project", home / "rattle" / "logic" / "antt-project.json"]
+        done = subprocess.run([home / "bin" / "rattle", "check", *asked, "--generated", to],
                               cwd=folder, text=True, capture_output=True)
         said = done.stdout + done.stderr
         if not re.search(r"^generated=\d+$", said, re.M):
             raise Unreadable(f"the compiler does not take the source:\n"
                              f"{complaint(said).replace(f'{folder}/', '')}")
-        return {name_of(path.relative_to(to)): path.read_text()
-                for path in to.rglob("Mir.antt") if path.parent.name == "Code"}
+        return {name: path.read_text() for path in to.rglob("Code/*.antt")
+                for name in [name_of(path.relative_to(to))] if name}
 
 
 def name_of(path):
-    """The function whose code is in a file."""
-    home, *inside, _, _ = path.parts
-    return "::".join([re.fullmatch(r"Rattle-(\w+)-proofs", home)[1], *inside])
+    """The function whose code is in a file, if it is any's.  Those that call each other
+    have theirs in one folder."""
+    home, *inside, _, file = path.parts
+    own = re.fullmatch(r"Rattle-(\w+)-proofs", home)
+    if own and file == "Mir.antt":
+        return "::".join([own[1], *inside])
+    if own and file[0] == inside[-1][0] == "+":
+        return "::".join([own[1], *inside[:-1], path.stem[1:]])
+    return None
 
 
 # ---- and what is kept of it
@@ -114,15 +120,16 @@ def codes(crates, starts=None):
     """The modules with the code of every function of the crates that these are made of."""
     own, theirs = needs(listed() if starts is None else starts)
     own = [name for name in own if has_code(crates / name)]
-    beside = [(kit() / "KIT-ID").read_text()]
     try:
         source = Source(crates, own)
     except Unread:
-        return printed(crates, own, theirs)
-    keys = {name: source.key(name, beside) for name in source.functions}
+        return printed(plain(crates, own), theirs)
+    kit_id = (kit() / "KIT-ID").read_text()
+    keys = {name: source.key(name, kit_id) for name in source.functions}
     found = {name: kept(key) for name, key in keys.items()}
     missing = [name for name in keys if found[name] is None]
-    made = fresh(crates, own, theirs, missing)
+    made = (printed(plain(crates, own), theirs) if len(missing) > FEW else
+            one_by_one(source, missing, theirs))
     for name in missing:
         if name not in made:
             raise Unreadable(f"the compiler prints no code of {name}")
@@ -131,13 +138,10 @@ def codes(crates, starts=None):
     return found
 
 
-def fresh(crates, own, theirs, names):
-    """What the compiler prints of these functions, and maybe of others."""
-    if len(names) > FEW:
-        return printed(crates, own, theirs)
+def one_by_one(source, names, theirs):
+    """What the compiler prints of these functions, by what each crate's depend on."""
     found = {}
     for crate in dict.fromkeys(name.split("::")[0] for name in names):
-        inside, outside = needs([crate])
-        found.update(printed(crates, [name for name in own if name in inside], outside,
-                             [name for name in names if name.split("::")[0] == crate]))
+        inside = [name for name in names if name.split("::")[0] == crate]
+        found.update(printed(source.pruned(inside), theirs, inside))
     return found

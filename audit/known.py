@@ -179,7 +179,7 @@ class Walk:
 
     def operand(self, term):
         if isinstance(term, str):
-            return Sign(term)
+            return Sign(term.removeprefix("opd_"))
         if term[0] in ("int", "float"):
             return int(term[2])
         if term[0] == "copy":

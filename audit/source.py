@@ -16,6 +16,7 @@ from dataclasses import dataclass
 from pathlib import Path
 
 ROOT = Path(__file__).resolve().parent.parent
+ROOTS = ("lib", "main")
 
 NO_CODE = re.compile(r'//[^\n]*|/\*.*?\*/|b?"(?:\\.|[^"\\])*"|b?\'(?:\\.|[^\'\\\n])\'', re.S)
 TACTIC = re.compile(r"#!?\[tactic\([^\]]*\)\]")
@@ -37,6 +38,16 @@ def blank(text):
 def code_of(text):
     """The text with blanks in place of comments, strings and characters."""
     return NO_CODE.sub(lambda found: blank(found[0]), text)
+
+
+def told(text):
+    """What a text says to the compiler: without comments, and with single blanks."""
+    said, at = [], 0
+    for found in NO_CODE.finditer(text):
+        said += [" ".join(text[at:found.start()].split()),
+                 "" if found[0].startswith("/") else found[0]]
+        at = found.end()
+    return " ".join([*filter(None, said), *text[at:].split()])
 
 
 def end(code, begins, marks):
@@ -66,10 +77,11 @@ def without_contracts(text):
 
 # ---- items
 
-@dataclass
+@dataclass(eq=False)
 class Item:
     kind: str
-    name: str
+    name: str           # of an import, as it is called here
+    begins: int         # where in the file
     head: str           # of a function what stands before its body; else all of it
     body: str = ""
 
@@ -95,8 +107,37 @@ def items(text):
         if item[1] == "mod" and code[closes - 1] == "}":
             raise Unread(f"a module inside a file: {item[2]}")
         opens = code.find("{", at, closes) if item[1] == "fn" else closes
-        found.append(Item(item[1], item[2], text[begins:opens], text[opens:closes]))
+        if item[1] == "use":
+            found += imports(begins, text[at:closes])
+        else:
+            found.append(Item(item[1], item[2], begins, text[begins:opens],
+                              text[opens:closes]))
         at = closes
+    return found
+
+
+def imports(begins, text):
+    """Each name that an import brings, as an item of its own."""
+    before, _, tree = text.removesuffix(";").partition("use ")
+    for path in leaves(re.sub(r"\s+", " ", tree).strip()):
+        of, _, here = path.partition(" as ")
+        here = here or of.split("::")[-1]
+        yield Item("use", here, begins, f"{before}use {path};")
+
+
+def leaves(tree):
+    """The paths of an import: of `a::{b, c as d}` two."""
+    path, braces, rest = tree.partition("{")
+    if not braces:
+        return [tree.removesuffix("::self")]
+    found, begun, deep = [], "", 0
+    for mark in rest.rpartition("}")[0] + ",":
+        deep += (mark == "{") - (mark == "}")
+        if mark == "," and deep == 0:
+            found += leaves(path + begun.strip()) if begun.strip() else []
+            begun = ""
+        else:
+            begun += mark
     return found
 
 
@@ -141,45 +182,100 @@ def has_code(crate):
         for path in (crate / "src").rglob("*.rt"))
 
 
+@dataclass
+class File:
+    crate: str
+    path: Path          # below the crate's src
+    text: str           # without contracts
+    items: list
+
+    @property
+    def module(self):
+        return [*self.path.parts[:-1], self.path.stem] if self.path.stem not in ROOTS else []
+
+    def names(self, other, said):
+        """Whether a text of this file that says these words can name an item of another:
+        it says its crate, or in one crate its module, or `super` or `crate`."""
+        if other is self:
+            return True
+        if other.crate != self.crate:
+            return other.crate in said
+        return bool({"super", "crate", *other.module[-1:]} & said)
+
+    def pruned(self, kept, whole):
+        """The file with these items alone, line for line, and without the bodies of
+        functions but of some."""
+        text = list(blank(self.text))
+        for item in kept:
+            if item.kind == "use":
+                text[item.begins] += item.head
+                continue
+            ends = item.begins + len(item.head)
+            text[item.begins:ends] = item.head
+            if item in whole:
+                text[ends:ends + len(item.body)] = item.body
+            elif item.body:
+                text[ends] = "{ loop {} }"
+        return "".join(text)
+
+
 class Source:
-    """The source of these crates in a folder: each function by its name, and a key that
-    stands for all that its code depends on."""
+    """The source of these crates in a folder: each function by its name, and what its
+    code depends on."""
 
     def __init__(self, crates, own):
-        self.items, self.functions = {}, {}
+        self.files, self.functions, self.homes = [], {}, {}
         for crate in own:
             for path in sorted((crates / crate / "src").rglob("*.rt")):
-                self.read(crate, path.relative_to(crates / crate / "src"),
-                          items(without_contracts(path.read_text())))
+                text = without_contracts(path.read_text())
+                self.read(File(crate, path.relative_to(crates / crate / "src"), text,
+                               items(text)))
 
-    def read(self, crate, path, found):
-        module = [*path.parts[:-1], path.stem] if path.stem not in ("lib", "main") else []
-        uses = [item for item in found if item.kind == "use"]
-        for item in found:
+    def read(self, file):
+        self.files.append(file)
+        for item in file.items:
             if item.kind == "fn":
-                name = "::".join([crate, *module, item.name])
+                name = "::".join([file.crate, *file.module, item.name])
                 if name in self.functions:
                     raise Unread(f"{name} is there twice")
-                self.functions[name] = item, uses
-            if item.kind not in ("use", "mod"):
-                self.items.setdefault(item.name, []).append((crate, item))
+                self.functions[name] = file, item
+            if item.kind != "mod":
+                self.homes.setdefault(item.name, []).append((file, item))
 
-    def key(self, name, beside):
-        """A key for a function, and for what is said beside it."""
-        crate = name.split("::")[0]
-        reach = needs([crate])[0]
-        item, uses = self.functions[name]
-        named, waiting, texts = set(), words(item.text), set()
-        while waiting - named:
-            word = (waiting - named).pop()
-            named.add(word)
-            for use in uses:
-                if word in words(use.text):
-                    texts.add(use.text)
-                    waiting |= words(use.text)
-            for home, other in self.items.get(word, ()):
-                if home in reach and other is not item:
-                    texts.add(f"{home}: {other.head}")
-                    waiting |= words(other.head)
-        parts = [*beside, name, item.text, *sorted(texts)]
-        return hashlib.sha256("\0".join(parts).encode()).hexdigest()
+    def needed(self, name):
+        """The items that a function's code depends on, with their files: those of any
+        name that stands in it, or in one of these that is no function's body; and what
+        its file imports of the kit, since a method may be one of a trait."""
+        first, own = self.functions[name]
+        reach, theirs = needs([first.crate])
+        found = {id(item): (first, item) for item in first.items
+                 if item is own or item.kind == "use" and words(item.head) & set(theirs)}
+        waiting = [(first, own.text)]
+        while waiting:
+            file, text = waiting.pop()
+            said = words(text)
+            for home, item in (other for word in said for other in self.homes.get(word, ())):
+                if id(item) not in found and home.crate in reach and file.names(home, said):
+                    found[id(item)] = home, item
+                    waiting.append((home, item.head))
+        return list(found.values())
+
+    def key(self, name, kit_id):
+        """A key for a function, of what its code depends on and the kit."""
+        _, own = self.functions[name]
+        texts = sorted(f"{file.crate} {file.path}: {told(item.head)}"
+                       for file, item in self.needed(name))
+        said = "\0".join([kit_id, name, told(own.text), *texts])
+        return hashlib.sha256(said.encode()).hexdigest()
+
+    def pruned(self, names):
+        """The source with no more than these functions depend on: a text for each file,
+        by its path below the crates."""
+        needed = {id(item): item for name in names for _, item in self.needed(name)}
+        whole = [self.functions[name][1] for name in names]
+        found, crates = {}, {name.split("::")[0] for name in names}
+        for file in self.files:
+            kept = [item for item in file.items if id(item) in needed or item.kind == "mod"]
+            found[Path(file.crate) / "src" / file.path] = file.pruned(kept, whole)
+            crates |= {file.crate for item in kept if item.kind != "mod"}
+        return {path: text for path, text in found.items() if path.parts[0] in crates}

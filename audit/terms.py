@@ -137,8 +137,8 @@ class Printed:
             _, types, dictionaries = rest[0]
             return ["fn", self.called[head], self.plain(types), self.plain(dictionaries)]
         rest = list(map(self.plain, rest))
-        if head == "method":
-            return [head, *rest[:2], *rest[2][1:]]
+        if head in ("fn", "method") and rest[-1][0] == "tuple":
+            return [head, *rest[:-1], *rest[-1][1:]]
         if head == "ty_named":
             return [head, text_of(rest[0][1]), rest[1]]
         if head in ("ty_struct", "ty_enum"):
