@@ -3,7 +3,7 @@
 import argparse
 from pathlib import Path
 
-from lowered import ROOT
+from source import ROOT
 
 
 def asked(description):

@@ -39,7 +39,8 @@ import sys
 sys.dont_write_bytecode = True
 
 from asked import asked
-from lowered import Unreadable, lower
+from lowered import lower
+from terms import Unreadable
 from tables import tables
 
 BLOCK = 45
@@ -99,7 +100,7 @@ def handed(program, function):
 
 def turns(program, function):
     """A function that can reach itself."""
-    if function in program.reached(function.calls):
+    if function.name in {reached.name for reached in program.reached(function.callees)}:
         yield f"{function.name}: it can reach itself"
 
 
@@ -131,7 +132,7 @@ def search(program, followed):
 
 
 def reads(program, function):
-    return any(reached.name == SEARCH for reached in program.reached([function.name]))
+    return SEARCH in program.mentioned([function.name])
 
 
 def missed(program, followed):

@@ -62,9 +62,10 @@ sys.dont_write_bytecode = True
 
 from asked import asked
 from known import walked
-from lowered import Unreadable, lower_all
+from lowered import lower_all
 from statement import LINE, STATEMENT, THEOREM, is_proved, named
 from tables import place, whole
+from terms import Unreadable
 from values import EACH, Sign, is_known, leaves, numbers
 from words import all_that_put, are_words
 
@@ -96,7 +97,7 @@ def arrays(walk, put):
     """Arrays written out that are tables."""
     for to, kind, values in walk.made:
         constant = tuple(filter(is_known, values))
-        if kind[0] != "tyArray":
+        if kind[0] != "ty_array":
             continue
         if len(constant) == len(values) and differ(values):
             if not are_words(walk.function, to, values, put):
@@ -107,7 +108,7 @@ def arrays(walk, put):
 
 def beside(walk):
     """Numbers beside each other in a struct, or handed to one call."""
-    structs = [values for _, kind, values in walk.made if kind[0] != "tyArray"]
+    structs = [values for _, kind, values in walk.made if kind[0] != "ty_array"]
     for form, made in (("struct", structs), ("call", walk.handed)):
         for values in made:
             single = tuple(number for number in values if isinstance(number, int))
@@ -187,9 +188,7 @@ def refusals(found, names, proved):
 
 def leaning(program, found):
     """The tables that the tables program can look its numbers up in."""
-    of_the_kit = {name for function in program.functions.values()
-                  for name in function.calls} - program.functions.keys()
-    reached = {function.name for function in program.reached([PRINTER], of_the_kit)}
+    reached = program.mentioned([PRINTER])
     for name in sorted({table.function for table in found} & reached):
         yield f"{PRINTER}: it can reach {name}, which has a constant table"
 

@@ -8,14 +8,14 @@ are put into a module of their own, so that all forms are lowered at once.
 from match_forms import MATCHES
 
 AROUND = """
-pub struct Pair { pub a: u8, pub b: [u8; 3] }
-pub struct Two { pub a: [u8; 3], pub b: [u8; 3] }
-pub struct Four { pub a: u8, pub b: u8, pub c: u64, pub d: u64 }
-pub enum Kind { None, One(u8), Two(u8, u8), All }
+#[derive(Clone, Copy)] pub struct Pair { pub a: u8, pub b: [u8; 3] }
+#[derive(Clone, Copy)] pub struct Two { pub a: [u8; 3], pub b: [u8; 3] }
+#[derive(Clone, Copy)] pub struct Four { pub a: u8, pub b: u8, pub c: u64, pub d: u64 }
+#[derive(Clone, Copy)] pub enum Kind { None, One(u8), Two(u8, u8), All }
 pub fn taken(t: [u8; 3]) -> u8 { t[0] }
 pub fn lent(t: &[u8]) -> u8 { t[0] }
 pub fn twice(x: u8) -> u8 { x + x }
-pub fn pair(a: u8, b: [u8; 3]) -> Pair { Pair { a, b } }
+pub fn paired(a: u8, b: [u8; 3]) -> Pair { Pair { a, b } }
 pub fn pick(i: u8, a: u8, b: u8, c: u8, d: u8) -> u8 { i + a + b + c + d }
 pub fn fill(t: &mut [u8]) { t[0] = 1; }
 pub fn count(x: &mut u8) { *x = *x + 1; }
@@ -185,7 +185,7 @@ pub fn f() -> [[u8; 2]; 3] { let mut t = [[0u8; 2]; 3]; t[1][0] = 5; t[2][1] = 7
 
 # steps in a struct
 = an array filled in steps: 5, 6
-pub fn f() -> Pair { let mut p = pair(1, [0; 3]); p.b[0] = 5; p.b[1] = 6; p }
+pub fn f() -> Pair { let mut p = paired(1, [0; 3]); p.b[0] = 5; p.b[1] = 6; p }
 
 # steps and then lent
 = an array filled in steps: 0, 3

@@ -10,7 +10,8 @@ is the same on each of them stays known.
 
 from dataclasses import dataclass, field
 
-from lowered import SLICE, Unreadable, items, parts
+from lowered import SLICE, called
+from terms import Unreadable, items, parts
 from values import EACH, Asked, At, Made, Sign, is_known
 
 LONGEST = 200       # a text that would be longer is replaced by a new one
@@ -27,7 +28,7 @@ def operation(name):
 def changed(step):
     """The values that a step writes, or takes the address of."""
     for part in parts(step):
-        if part[0] in ("assign", "addrOf"):
+        if part[0] in ("assign", "addr_of"):
             yield int(part[1][1])
         elif part[0] == "call":
             yield int(part[3][1])
@@ -40,6 +41,24 @@ def arms(term):
         found.append(term[2])
         term = term[3]
     return [*found, term[1] if term[0] == "default" else term]
+
+
+def constant(term):
+    """The value of a constant that lies in memory of its own."""
+    if term == "c_unit":
+        return Sign("unit")
+    head, *rest = term
+    if head in ("c_int", "c_float"):
+        return int(rest[1])
+    if head == "c_bool":
+        return Sign(rest[0])
+    if head == "c_ints":
+        return tuple(map(int, items(rest[1])))
+    if head == "c_repeat":
+        return (constant(rest[0]),) * int(rest[1])
+    if head == "c_parts":
+        return tuple(map(constant, items(rest[0])))
+    raise Unreadable(f"the constant {head}")
 
 
 def common(ways):
@@ -60,6 +79,7 @@ class Walk:
     begun: int = 0                              # how many tests and new texts there are
     around: int = 0                             # how many blocks and loops are around
     left: list = field(default_factory=list)    # those that are left, and -1 if all are
+    constants: dict = field(default_factory=dict)   # what is lent of the source, by text
     # What is found on the way:
     made: list = field(default_factory=list)    # aggregates: where, type, parts
     handed: list = field(default_factory=list)  # to each call: its arguments
@@ -91,7 +111,7 @@ class Walk:
             elif form is None:
                 kind = self.program.fields(kind)[0][int(rest[0])]
             else:       # the first says which form it is
-                inside = [["tyInt", "8"], *self.program.fields(kind)[form]]
+                inside = [["ty_int", "w8"], *self.program.fields(kind)[form]]
                 kind, form = inside[int(rest[0])], None
         return kind
 
@@ -110,6 +130,8 @@ class Walk:
             raise Unreadable(f"the way {way[0]}")
         if isinstance(value, At) and str(value) == f"value {value.value}":
             return self.known.get(value.value, str(value))
+        if isinstance(value, At) and str(value) in self.constants:
+            return self.constants[str(value)]
         return self.text("*", value)
 
     def read(self, value, ways):
@@ -142,7 +164,7 @@ class Walk:
             self.note(to, to.index, value)
             self.known.pop(to.value, None)
             return
-        if self.function.values[to.value][0] == "tyArray":
+        if self.function.values[to.value][0] == "ty_array":
             for part in dict.fromkeys(value) if isinstance(value, tuple) else [value]:
                 self.note(to, EACH, part)
         self.known[to.value] = value
@@ -157,7 +179,7 @@ class Walk:
 
     def operand(self, term):
         if isinstance(term, str):
-            return Sign(term)
+            return Sign(term.removeprefix("opd_"))
         if term[0] in ("int", "float"):
             return int(term[2])
         if term[0] == "copy":
@@ -189,16 +211,24 @@ class Walk:
 
     def aggregate(self, place, values):
         kind = self.kind(place)
-        if kind[0] == "tyNamed":
+        if kind[0] == "ty_named":
             self.program.fields(kind)       # it is declared
-            if self.program.types[kind[1][1]][0] == "variants":
+            if self.program.types[kind[1]][0] == "variants":
                 values = (Sign(f"form {values[0]}"), *values[1:])
         self.made.append((place, kind, values))
         return values
 
+    def constant(self, place, kind, term):
+        """The address of a constant that is lent."""
+        address, value = At(self.new()), constant(term)
+        self.constants[address.text] = value
+        if isinstance(value, tuple):
+            self.made.append((place, kind, value))
+        return address
+
     def lend(self, address, kind):
         """An address.  If it may be written by, what is there is known no more."""
-        if kind != "tyPtr" and (kind[0] != "tyRef" or kind[2] != "imm"):
+        if kind != "ty_ptr" and (kind[0] != "ty_ref" or kind[1] != "imm"):
             self.note(address, None, self.new())
             self.known.pop(address.value, None)
         return address
@@ -206,7 +236,7 @@ class Walk:
     def result(self, place, what):
         """The value that an assignment puts at a place."""
         head, *rest = what
-        if head == "rvOpd":
+        if head == "rv_opd":
             return self.operand(rest[0])
         if head == "aggregate":
             return self.aggregate(place, tuple(map(self.operand, items(rest[0]))))
@@ -216,7 +246,7 @@ class Walk:
             return self.single(operation(rest[0]), self.operand(rest[1]))
         if head == "op2":
             return self.pair(operation(rest[0]), *map(self.operand, rest[1:]))
-        if head == "addrOf":
+        if head == "addr_of":
             return self.lend(self.address(rest[0]), self.kind(place))
         raise Unreadable(f"the value {head}")
 
@@ -269,7 +299,7 @@ class Walk:
         return self.step(step) and leads_on
 
     def step(self, step):
-        if step in ("skip", "noDefault"):
+        if step in ("skip", "no_default", "unreachable"):
             return step == "skip"
         if step == "return":
             return self.leave(-1)
@@ -278,12 +308,14 @@ class Walk:
         if step[0] == "assign":
             self.write(step[1], self.result(step[1], step[2]))
         elif step[0] == "call":
-            made = Made(step[1][1][1], tuple(map(self.operand, items(step[2]))))
+            made = Made(called(step), tuple(map(self.operand, items(step[2]))))
             self.call(made)
             self.write(step[3], made if is_known(made) else self.new())
+        elif step[0] == "lend_static":
+            self.write(step[1], self.constant(*step[1:]))
         elif step[0] in ("block", "loop"):
             self.within(step[1])
-        elif step[0] in ("if", "switch"):
+        elif step[0] in ("cond", "switch"):
             return self.test(*step)
         else:
             raise Unreadable(f"the step {step[0]}")

@@ -47,7 +47,7 @@ pub fn f(x: u8) -> [u8; 2] { match x { 0 => [1; 2], 1 => [2; 2], _ => [0; 2] } }
 # match of structs
 = a match with 3 results: 1, 0, 0, 0, ..
 pub fn f(x: u8) -> Pair {
-    match x { 0 => pair(1, [0; 3]), 1 => pair(2, [0; 3]), _ => pair(3, [0; 3]) }
+    match x { 0 => paired(1, [0; 3]), 1 => paired(2, [0; 3]), _ => paired(3, [0; 3]) }
 }
 
 # match of forms with numbers
@@ -75,7 +75,7 @@ pub fn f(x: u8, y: u8) -> u8 { match x { 0 => y ^ 5, 1 => y ^ 6, 2 => y ^ 7, _ =
 # match that calls
 = a match with 3 results: 5, 6, 7
 pub fn f(x: u8, b: [u8; 3]) -> Pair {
-    match x { 0 => pair(5, b), 1 => pair(6, b), _ => pair(7, b) }
+    match x { 0 => paired(5, b), 1 => paired(6, b), _ => paired(7, b) }
 }
 
 # ifs

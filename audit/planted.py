@@ -1,12 +1,14 @@
 """Copies of the source in a folder of their own, with something planted, and tests that
 see what is said of them."""
 
+import os
 import shutil
 import tempfile
 import unittest
+from concurrent.futures import ThreadPoolExecutor
 from pathlib import Path
 
-from lowered import ROOT
+from source import ROOT
 
 
 def replaced(path, old, new):
@@ -35,9 +37,25 @@ class InFolder(unittest.TestCase):
         self.crates = Path(folder.name)
 
 
-def planting(plant):
+class Planted(unittest.TestCase):
+    """What is said of each plant.  The compiler looks at several copies at a time."""
+
+    @classmethod
+    def setUpClass(cls):
+        cls.said_of_none()          # what the copies have in common is then kept
+        pool = ThreadPoolExecutor(len(os.sched_getaffinity(0)))
+        cls.addClassCleanup(pool.shutdown)
+        cls.found = {name: pool.submit(cls.looked, plant) for name, plant in cls.plants.items()}
+
+    @classmethod
+    def looked(cls, plant):
+        with tempfile.TemporaryDirectory() as folder:
+            return cls.said(plant, Path(folder))
+
+
+def planting(name, plant):
     def test(self):
-        found = self.said(plant)
+        found = self.found[name].result()
         for begins in plant.says:
             self.assertTrue(any(line.startswith(begins) for line in found), found)
         if not plant.and_more:
@@ -47,6 +65,7 @@ def planting(plant):
 
 
 def tests_of(plants, case):
-    """Makes a test of each plant, in a class that has `said`."""
+    """Makes a test of each plant, in a class that has `said` and `said_of_none`."""
+    case.plants = plants
     for number, (name, plant) in enumerate(plants.items(), 1):
-        setattr(case, f"test_{number:02}_{name.replace(' ', '_')}", planting(plant))
+        setattr(case, f"test_{number:02}_{name.replace(' ', '_')}", planting(name, plant))

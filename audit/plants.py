@@ -31,7 +31,7 @@ CORRECT = "    let d = decode::decode(s, m);\n    let r = d.reading;"
 GET = "    block::read_noted(&bank[from..end], m, out, w)"
 PATROL = "    block::mend(&mut bank[start..end], m, w)"
 REPORT = "    class_of(block::look(&bank[at..end], m))"
-MEND = "    // On a refusal the change is none."
+MEND = "    let made = decode::decode(s, m);"
 NO_MARKS = "    let n = change::count(equations::alone(rows, 0));"
 OVER_CARDS = "    let rows = sums::rows(s);\n    let mut found: u8 = 0;"
 ROWS = "    word(b, 0) ^ word(b, 9)"
@@ -55,7 +55,7 @@ def held(name, kind):
 ARRAYS = {
     "array": Plant(
         [before("block", CORRECT, "    let mut whole = [0u8; 45];\n"
-                                  "    bytes::copy(received, &mut whole);\n")],
+                                  "    whole.copy_from_slice(received);\n")],
         (held("block::correct", "[u8; 45], 45 bytes"),
          "block::correct: its arrays are")),
     "array in read": Plant(
@@ -117,7 +117,7 @@ ARRAYS = {
 COPIES = {
     "copied part": Plant(
         [("bank", "lib", GET, "    let mut part = [0u8; 45];\n"
-                              "    bytes::copy(&bank[from..end], &mut part);\n"
+                              "    part.copy_from_slice(&bank[from..end]);\n"
                               "    block::read_noted(&part, m, out, w)")],
         (held("bank::get", "[u8; 45], 45 bytes"),
          "bank::get: its arrays are")),
@@ -129,31 +129,31 @@ COPIES = {
 
 STRUCTS = {
     "struct": Plant(
-        [behind("sums", "\nstruct Whole {\n    bytes: [u8; 45],\n}\n"),
+        [behind("sums", "\n#[derive(Clone, Copy)]\nstruct Whole {\n    bytes: [u8; 45],\n}\n"),
          before("sums", ROWS, "    let whole = Whole { bytes: [0; 45] };\n")],
         (held("sums::low_rows", "[u8; 45], 45 bytes"),
          held("sums::low_rows", "sums::Whole, 45 bytes"),
          "sums::low_rows: its arrays are")),
     "struct of five cards": Plant(
-        [behind("decode", "\nstruct Cards {\n    a: [u8; 9],\n    b: [u8; 9],\n"
+        [behind("decode", "\n#[derive(Clone, Copy)]\nstruct Cards {\n    a: [u8; 9],\n    b: [u8; 9],\n"
                           "    c: [u8; 9],\n    d: [u8; 9],\n    e: [u8; 9],\n}\n"),
          before("decode", NO_MARKS, "    let five = Cards { a: rows, b: rows, c: rows, "
                                     "d: rows, e: rows };\n")],
         (held("decode::no_marks", "decode::Cards, 45 bytes"),)),
     "struct of words": Plant(
-        [behind("sums", "\nstruct Words {\n    a: u64,\n    b: u64,\n    c: u64,\n"
+        [behind("sums", "\n#[derive(Clone, Copy)]\nstruct SixWords {\n    a: u64,\n    b: u64,\n    c: u64,\n"
                         "    d: u64,\n    e: u64,\n    f: u64,\n}\n"),
          before("sums", ROWS, "    let a = word(b, 0);\n"
-                "    let six = Words { a, b: a, c: a, d: a, e: a, f: a };\n")],
-        (held("sums::low_rows", "sums::Words, 48 bytes"),)),
+                "    let six = SixWords { a, b: a, c: a, d: a, e: a, f: a };\n")],
+        (held("sums::low_rows", "sums::SixWords, 48 bytes"),)),
     "struct in a struct": Plant(
-        [behind("decode", "\nstruct Inner {\n    bytes: [u8; 36],\n}\n"
-                          "\nstruct Outer {\n    four: Inner,\n    fifth: [u8; 9],\n}\n"),
+        [behind("decode", "\n#[derive(Clone, Copy)]\nstruct Inner {\n    bytes: [u8; 36],\n}\n"
+                          "\n#[derive(Clone, Copy)]\nstruct Outer {\n    four: Inner,\n    fifth: [u8; 9],\n}\n"),
          before("decode", NO_MARKS, "    let five = Outer { four: Inner { bytes: [0; 36] }, "
                                     "fifth: rows };\n")],
         (held("decode::no_marks", "decode::Outer, 45 bytes"),)),
     "enum": Plant(
-        [behind("decode", "\nenum Tried {\n    Byte(u8),\n    Block([u8; 44]),\n}\n"),
+        [behind("decode", "\n#[derive(Clone, Copy)]\nenum Tried {\n    Byte(u8),\n    Block([u8; 44]),\n}\n"),
          before("decode", NO_MARKS, "    let tried = Tried::Block([0; 44]);\n")],
         (held("decode::no_marks", "decode::Tried, 45 bytes"),)),
     "longer struct of the source": Plant(
@@ -182,7 +182,7 @@ PARAMETERS = {
          "block::first_of: it is handed 64 bytes by value"),
         and_more=True),
     "struct by value": Plant(
-        [behind("decode", "\nstruct Pair {\n    a: [u8; 9],\n    b: [u64; 5],\n    last: u8,\n}\n"
+        [behind("decode", "\n#[derive(Clone, Copy)]\nstruct Pair {\n    a: [u8; 9],\n    b: [u64; 5],\n    last: u8,\n}\n"
                 + first_of("pair: Pair", "pair.last")),
          before("decode", NO_MARKS, "    first_of(Pair { a: rows, b: [0; 5], last: 0 });\n")],
         (held("decode::no_marks", "decode::Pair, 50 bytes"),
@@ -231,11 +231,11 @@ PIECES = {
         [before("registers", RUN, "    let a = [0u8; 23];\n    let b = [0u8; 22];\n")],
         ("registers::run: its arrays are",)),
     "arrays in an enum": Plant(
-        [behind("block", "\nenum Tried {\n    Byte(u8),\n    Half([u8; 15]),\n}\n"),
+        [behind("block", "\n#[derive(Clone, Copy)]\nenum Tried {\n    Byte(u8),\n    Half([u8; 15]),\n}\n"),
          before("block", COPY, "        let a = Tried::Half([0; 15]);\n")],
         ("block::copy_block: its arrays are",)),
     "arrays where a struct is lent bytes": Plant(
-        [behind("block", "\nstruct Lent<'a> {\n    bytes: &'a [u8],\n}\n"
+        [behind("block", "\n#[derive(Clone, Copy)]\nstruct Lent<'a> {\n    bytes: &'a [u8],\n}\n"
                          "\nfn halves(lent: Lent) -> u8 {\n    let a = [0u8; 23];\n"
                          "    let b = [0u8; 22];\n    lent.bytes[0]\n}\n"),
          before("block", CORRECT, "    halves(Lent { bytes: received });\n")],
@@ -244,7 +244,7 @@ PIECES = {
         [before("decode", OVER_CARDS, "    let a = [0u8; 23];\n    let b = [0u8; 22];\n")],
         ()),
     "arrays in structs": Plant(
-        [behind("block", "\nstruct Half {\n    bytes: [u8; 14],\n    last: u8,\n}\n"),
+        [behind("block", "\n#[derive(Clone, Copy)]\nstruct Half {\n    bytes: [u8; 14],\n    last: u8,\n}\n"),
          before("block", COPY, "        let half = Half { bytes: [0; 14], last: 0 };\n"
                                "        let other = half;\n")],
         ("block::copy_block: its arrays are",)),
@@ -258,8 +258,8 @@ TURNS = {
          before("sums", ROWS, "    again(b, 0);\n")],
         ("sums::again: it can reach itself",)),
     "two functions that call each other": Plant(
-        [behind("sums", "\nfn odd(b: &[u8], j: usize) -> u64 {\n    even(b, j)\n}\n"
-                        "\nfn even(b: &[u8], j: usize) -> u64 {\n"
+        [behind("sums", "\n#[cycle(turns)]\nfn odd(b: &[u8], j: usize) -> u64 {\n    even(b, j)\n}\n"
+                        "\n#[cycle(turns)]\nfn even(b: &[u8], j: usize) -> u64 {\n"
                         "    if j == 0 {\n        return wide(b[0]);\n    }\n"
                         "    odd(b, j - 1)\n}\n"),
          before("sums", ROWS, "    odd(b, 4);\n")],
@@ -295,9 +295,9 @@ SEARCH = {
          ("sums", "lib", OF_RECORD, "        first: 0,\n" + OF_RECORD)],
         ("decode::decode: it is handed {'sums::Sums': 12, 'marks::Marks': 5}",)),
     "reading that is not followed": Plant(
-        [behind("capi", "\n#[no_mangle]\npub extern \"C\" fn livomashen_peek(block: &mut [u8], "
+        [behind("capi", "\n#[unsafe(no_mangle)]\npub extern \"C\" fn livomashen_peek(block: &mut [u8], "
                         "m: &[u8]) -> u32 {\n    let mut whole = [0u8; 45];\n"
-                        "    bytes::copy(block, &mut whole);\n    encode::of_reading("
+                        "    whole.copy_from_slice(block);\n    encode::of_reading("
                         "block::read(&whole, marks::from_slice(m), block))\n}\n")],
         ("capi::livomashen_peek: it reads, and is not followed",)),
 }

@@ -8,16 +8,16 @@ of the function's module `Reads`.  A comment names nothing, and neither does an 
 
 import re
 
-from lowered import Unreadable
+from terms import Unreadable
 
 STATEMENT = "constants/specs/EveryTable.antt"
 THEOREM = "constants/proofs/EveryTable.antt"
 RECORD = re.compile(r"pub record EveryTable : Type \d+ where")
-LINE = "pub every-table : EveryTable"
+LINE = "pub every_table : EveryTable"
 
 NAME = r'[^\s(){}.;,@"«»]+'
 TEXT = re.compile(r'"(\\.|[^"\\])*"')
-OF_CRATE = r"^use Rattle·(\w+)(?:·proofs)?\.proofs\."
+OF_CRATE = r"^use Rattle\.(\w+)\.proofs\."
 TABLES = re.compile(OF_CRATE + r"Constants\.\{([^}]*)\}", re.M)
 READS = re.compile(OF_CRATE + rf"([\w.]+)\.Reads as ({NAME})$", re.M)
 LEARNT = re.compile(rf"({NAME})\.Learnt(?!{NAME})")

@@ -5,7 +5,8 @@ Constants count only in the functions that are named as making a table.  Anywher
 else a table is the result of one of these, or a copy of a table.
 """
 
-from lowered import items, parts
+from lowered import called, written_by
+from terms import items, parts
 
 
 def place(term):
@@ -15,7 +16,7 @@ def place(term):
 
 def whole(what):
     """The value of which all is copied, if that is what is written."""
-    if what[0] == "rvOpd" and what[1][0] == "copy":
+    if what[0] == "rv_opd" and what[1][0] == "copy":
         value, part = place(what[1][1])
         return None if part else value
     return None
@@ -24,17 +25,14 @@ def whole(what):
 def writes(function):
     """Every write: the value, whether into a part of it or behind it, and what."""
     for step in function.steps:
-        if step[0] == "assign":
-            yield *place(step[1]), step[2]
-        else:
-            yield *place(step[3]), step
+        yield *place(written_by(step)), step[2] if step[0] == "assign" else step
 
 
 # ---- by its address
 
 def pointed(what):
     """The value whose address is taken, or the pointer that is moved."""
-    if what[0] == "addrOf":
+    if what[0] == "addr_of":
         return place(what[1])[0]
     if what[0] == "op2" and what[1] == "offset":
         return place(what[2][1])[0]
@@ -60,9 +58,9 @@ def is_only_read(function, value):
                 return False
             if pointed(what) in pointers | {value}:
                 kind = function.values[to]
-                if kind == "tyPtr":
+                if kind == "ty_ptr":
                     pointers.add(to)
-                elif part or kind[0] != "tyRef" or kind[2] != "imm":
+                elif part or kind[0] != "ty_ref" or kind[1] != "imm":
                     return False
     return True
 
@@ -78,7 +76,7 @@ def is_constant(what):
 def is_table(function, value, others, makers):
     """Whether a value is filled by whole tables and nothing else, and then only read."""
     into = [not part and ((function.name in makers and is_constant(what))
-                          or (what[0] == "call" and what[1][1][1] in makers)
+                          or (what[0] == "call" and called(what) in makers)
                           or whole(what) in others)
             for to, part, what in writes(function) if to == value]
     return bool(into) and all(into) and is_only_read(function, value)

@@ -10,17 +10,24 @@ sys.dont_write_bytecode = True
 
 import plants
 from buffers import CALLS, TABLES, refusals
-from lowered import ROOT, lower, needs
-from planted import InFolder, planted, tests_of
+from lowered import lower
+from planted import InFolder, Planted, planted, tests_of
+from source import ROOT, needs
 
 
-class Planted(InFolder):
-    def said(self, plant):
-        planted(plant.edits, self.crates, needs()[0])
-        return refusals(lower(self.crates))
+class Buffers(Planted):
+    @classmethod
+    def said_of_none(cls):
+        return lower()
+
+    @classmethod
+    def said(cls, plant, crates):
+        planted(plant.edits, crates, needs()[0])
+        return refusals(lower(crates))
 
 
-tests_of(plants.ALL, Planted)
+tests_of(plants.ALL, Buffers)
+del Planted
 
 
 class Source(unittest.TestCase):
@@ -46,7 +53,7 @@ class Source(unittest.TestCase):
         self.assertLessEqual({"sums::of_block", "sums::built_in::gather_card", "decode::no_marks",
                               "decode::over_cards", "decode::beside_card",
                               "decode::equations::with_two", "change::apply",
-                              "block::copy_block", "window::add", "bytes::copy",
+                              "block::copy_block", "window::add", "core::slice::edits::slice+T::copy_from_slice<u8>",
                               *TABLES}, self.followed)
 
     def test_other_calls_are_not(self):

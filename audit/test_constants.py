@@ -7,15 +7,18 @@ import shutil
 import subprocess
 import sys
 import unittest
+from pathlib import Path
 
 sys.dont_write_bytecode = True
 
 import forms
 import plants
 from constants import leaning, refusals, tables
-from lowered import ROOT, listed, lower_all, printed, program
-from planted import InFolder, planted, replaced, tests_of
+from compiled import plain, printed
+from lowered import lower_all, program
+from planted import InFolder, Planted, planted, replaced, tests_of
 from plants import Plant, before, behind
+from source import ROOT, listed
 from stated import state
 from statement import LINE, STATEMENT, THEOREM, is_proved, named
 
@@ -107,13 +110,11 @@ class Forms(InFolder):
         return "form_" + name.replace(" ", "_")
 
     def lowered(self):
-        folder = self.crates
         modules = [f"mod {self.module(name)} {{\nuse crate::*;\n{code}\n}}\n"
                    for name, (code, _) in forms.read().items()]
-        (folder / "lib.rt").write_text(forms.AROUND + "".join(modules))
-        text = ROOT / "crates" / "text" / "src" / "lib.rt"
-        return program(printed({"text": text, "forms": folder / "lib.rt"},
-                               ["std", "io", "libc"]), {"text", "forms"})
+        files = plain(ROOT / "crates", ["text"])
+        files[Path("forms/src/lib.rt")] = forms.AROUND + "".join(modules)
+        return program(printed(files, ["std", "io"]))
 
 
 @functools.cache
@@ -130,18 +131,24 @@ def refused(found, crates):
     return list(refusals(found, named(crates), is_proved(crates)))
 
 
-class Planted(InFolder):
+class Tables(Planted):
     """With a small statement that names every table of the source."""
 
-    def said(self, plant):
-        planted(plant.edits, self.crates, listed())
-        state(self.crates, TABLES)
-        lowered = lower_all(self.crates)
+    @classmethod
+    def said_of_none(cls):
+        return everything()
+
+    @classmethod
+    def said(cls, plant, crates):
+        planted(plant.edits, crates, listed())
+        state(crates, TABLES)
+        lowered = lower_all(crates)
         found = tables(lowered)
-        return [*refused(found, self.crates), *leaning(lowered, found)]
+        return [*refused(found, crates), *leaning(lowered, found)]
 
 
-tests_of(PLANTS, Planted)
+tests_of(PLANTS, Tables)
+del Planted
 
 
 class Source(InFolder):

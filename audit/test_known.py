@@ -6,35 +6,64 @@ import unittest
 
 sys.dont_write_bytecode = True
 
-from known import LONGEST, Walk, walked
-from lowered import Function, Program, Unreadable, term
+from known import LONGEST, Walk
+from lowered import Function, Program
+from terms import Printed, Unreadable, term
 
 
-def body(text):
-    """A walk through a function of two bytes that has this body."""
-    kinds = [["tyInt", "8"]] * 2
-    return walked(Program({}, {}),
-                  Function("a::b", kinds, 1, [], set(), term(text)[0]))
+def walk(text):
+    """A walk through this, in a function of two bytes."""
+    done = Walk(Program({}, {}), Function("a::b", [["ty_int", "w8"]] * 2, 1))
+    done.walk(Printed("").plain(term(text)))
+    return done
 
 
 class Unknown(unittest.TestCase):
     def refused(self, about, text):
         with self.assertRaisesRegex(Unreadable, about):
-            body(text)
+            walk(text)
 
     def test_step(self):
         self.refused("the step jump", "(seq skip (jump 1))")
 
     def test_value(self):
-        self.refused("the value op3", "(assign (place 0 lnil) (op3 max (int 8 1)))")
+        self.refused("the value op3", "(assign (place 0 []) (op3 max (int w8 1)))")
 
     def test_operand(self):
-        self.refused("the operand other", "(assign (place 0 lnil) (rvOpd (other 1)))")
+        self.refused("the operand other", "(assign (place 0 []) (rv_opd (other 1)))")
 
     def test_way(self):
         self.refused("the way index",
-                     "(assign (place 0 lnil) "
-                     "(rvOpd (copy (place 1 (lcons (index 1) lnil)))))")
+                     "(assign (place 0 []) "
+                     "(rv_opd (copy (place 1 (◌∷◌ (index 1) [])))))")
+
+
+    def test_constant(self):
+        self.refused("the constant c_new", "(lend_static (place 0 []) ty_unit (c_new 1))")
+
+
+class Constants(unittest.TestCase):
+    """What is lent of the source."""
+
+    def lent(self, constant):
+        return walk(f"(lend_static (place 0 []) ty_unit {constant})")
+
+    def test_arrays_are_written_out(self):
+        byte = "(c_int w8 7)"
+        for constant, values in (
+                ("(c_ints w8 (◌∷◌ 1 (◌∷◌ 2 [])))", (1, 2)), (f"(c_repeat {byte} 3)", (7, 7, 7)),
+                (f"(c_parts (ccons {byte} (ccons (c_parts (ccons {byte} cnil)) cnil)))",
+                 (7, (7,)))):
+            self.assertEqual([values for *_, values in self.lent(constant).made], [values])
+
+    def test_others_are_not(self):
+        for constant in ("(c_int w8 7)", "(c_bool true)", "(c_float binary64 7)", "c_unit"):
+            self.assertEqual(self.lent(constant).made, [])
+
+    def test_it_is_known_behind_its_address(self):
+        two = "(lend_static (place 0 []) ty_unit (c_int w8 7))"
+        read = "(rv_opd (copy (place 0 (◌∷◌ (deref (ty_int w8)) []))))"
+        self.assertEqual(walk(f"(seq {two} (assign (place 1 []) {read}))").known[1], 7)
 
 
 class Texts(unittest.TestCase):

@@ -1,5 +1,4 @@
-"""What audit/lowered.py does not understand it does not pass over; and which crates it
-takes."""
+"""What audit/lowered.py does not understand it does not pass over."""
 
 import sys
 import unittest
@@ -7,142 +6,172 @@ import unittest
 sys.dont_write_bytecode = True
 
 from buffers import refusals
-from lowered import Unreadable, has_code, needs, program, root
-from planted import InFolder
+from lowered import Function, Kits, Program, called, program
+from terms import EMPTY, Printed, Unreadable, term
 
 
-def function(kind, body="return", name="a::b"):
-    """A program of one function, with one value."""
-    return (f'program (lcons (fn-def "{name}" (fnItem 0 lnil 0 (lcons (local {kind} '
-            f"valueLocal) lnil) {body})) lnil) lnil")
+def function(kind, body="return", types=""):
+    """A module with the code of a function that has one value."""
+    locals_ = f"◌∷◌ (Syntax.local {kind} Syntax.value_local) List.[]"
+    return (f"use a.b.C\n\nabbrev pub function : Syntax.Fn\nfunction = record {{\n"
+            f"  ty_params = List.[];\n  params = 0;\n  locals = {locals_};\n"
+            f"  body = {body};\n}}\n{types}")
 
 
-U8 = ["tyInt", "8"]
-NOTHING = program("program lnil lnil")
+def of(kind, body="return", name="a::b"):
+    return program({name: function(kind, body)})
+
+
+U8 = ["ty_int", "w8"]
+PAIR = ["ty_named", "a::S", EMPTY]
+NOTHING = Program({}, {})
 
 
 def slice_of(mut):
     """A slice of bytes: where it begins, and its length."""
-    begins = ["tyRef", "erased", mut, U8]
-    return ["tyStruct", "&[]", ["tcons", begins, ["tcons", ["tyInt", "64"], "tnil"]]]
+    return ["ty_struct", "&[]", [*EMPTY, ["ty_ref", mut, U8], ["ty_int", "w64"]]]
+
+
+def plain(text):
+    return Printed("").plain(term(text))
 
 
 class Types(unittest.TestCase):
     def test_as_the_source_writes_them(self):
-        for kind, written in ((U8, "u8"), (["tyFloat", "64"], "f64"), ("tyBool", "bool"),
-                              (["tyArray", U8, ["lenLit", "9"]], "[u8; 9]"),
-                              (["tyRef", "erased", "imm", U8], "&u8"),
-                              (["tyRef", "erased", "mut", U8], "&mut u8"),
+        for kind, written in ((U8, "u8"), (["ty_float", "binary64"], "f64"),
+                              ("ty_bool", "bool"), (["ty_array", U8, "9"], "[u8; 9]"),
+                              (["ty_ref", "imm", U8], "&u8"),
+                              (["ty_ref", "mut", U8], "&mut u8"),
                               (slice_of("imm"), "&[u8]"), (slice_of("mut"), "&mut [u8]"),
-                              (["tyNamed", ["pair", "a::S", "lnil"]], "a::S")):
+                              (PAIR, "a::S"),
+                              ([*PAIR[:2], [*EMPTY, U8, ["ty_const", "4"]]], "a::S<u8, 4>")):
             self.assertEqual(NOTHING.written(kind), written)
 
     def test_references_hold_nothing(self):
-        for kind in ("tyPtr", ["tyRef", "erased", "mut", U8], slice_of("imm")):
+        for kind in ("ty_ptr", ["ty_ref", "mut", U8], slice_of("imm")):
             self.assertEqual((NOTHING.size(kind), NOTHING.array_bytes(kind)), (0, 0))
             self.assertTrue(NOTHING.refers(kind))
-            self.assertTrue(NOTHING.refers(["tyArray", kind, ["lenLit", "2"]]))
+            self.assertTrue(NOTHING.refers(["ty_array", kind, "2"]))
 
     def test_others_refer_to_nothing(self):
-        for kind, size in (("tyUnit", 0), ("tyBool", 1), (U8, 1), (["tyFloat", "32"], 4),
-                           (["tyArray", U8, ["lenLit", "9"]], 9)):
+        for kind, size in (("ty_unit", 0), ("ty_bool", 1), (U8, 1),
+                           (["ty_float", "binary32"], 4), (["ty_array", U8, "9"], 9)):
             self.assertEqual(NOTHING.size(kind), size)
             self.assertFalse(NOTHING.refers(kind))
 
+    def test_struct_at_a_type(self):
+        made = Program({}, {"a::S": ["fields", [*EMPTY, U8, ["ty_param", "0"]]]})
+        kind = [*PAIR[:2], [*EMPTY, ["ty_array", U8, "9"]]]
+        self.assertEqual((made.size(kind), made.array_bytes(kind)), (10, 9))
+
+    def test_enum(self):
+        made = Program({}, {"a::S": ["variants", [*EMPTY, EMPTY, [*EMPTY, U8, U8]]]})
+        self.assertEqual(made.size(PAIR), 3)
+
 
 class Unknown(unittest.TestCase):
+    def size(self, made):
+        made.size(made.functions["a::b"].values[0])
+
     def test_type(self):
-        made = program(function("(tyNew 3)"))
-        with self.assertRaisesRegex(Unreadable, "tyNew"):
-            made.size(made.functions["a::b"].values[0])
+        with self.assertRaisesRegex(Unreadable, "ty_new"):
+            self.size(of("(Syntax.ty_new 3)"))
 
     def test_type_that_is_not_declared(self):
-        made = program(function('(tyNamed (pair "a::S" lnil))'))
-        with self.assertRaisesRegex(Unreadable, "a::S"):
-            made.size(made.functions["a::b"].values[0])
-
-    def test_type_of_another_form(self):
-        made = program(function('(tyNamed (pair "a::S" lnil))'))
-        made.types["a::S"] = ["union", "ttnil"]
-        with self.assertRaisesRegex(Unreadable, "a::S"):
-            made.size(made.functions["a::b"].values[0])
+        for made in (Program({}, {}), Program({}, {"a::S": ["union", EMPTY]})):
+            with self.assertRaisesRegex(Unreadable, "a::S"):
+                made.size(PAIR)
 
     def test_type_to_write(self):
-        with self.assertRaisesRegex(Unreadable, "tyNew"):
-            NOTHING.written(["tyNew", "3"])
+        with self.assertRaisesRegex(Unreadable, "ty_new"):
+            NOTHING.written(["ty_new", "3"])
+
+    def test_two_types_of_a_name(self):
+        with self.assertRaisesRegex(Unreadable, "a::S is two types"):
+            NOTHING.declare([("a::S", ["fields", EMPTY]), ("a::S", ["variants", EMPTY])])
 
     def test_step(self):
         with self.assertRaisesRegex(Unreadable, "the step jump"):
-            program(function("tyBool", "(seq skip (jump 1))"))
-
-    def test_list(self):
-        with self.assertRaisesRegex(Unreadable, "a list by pair"):
-            program(function("tyBool").replace("(lcons (local", "(pair (local"))
-
-    def test_function_that_is_there_twice(self):
-        once = function("tyBool")
-        again = once.removeprefix("program ").removesuffix(" lnil")
-        twice = once.replace("lnil) lnil", f"{again}) lnil")
-        with self.assertRaisesRegex(Unreadable, "a::b is there twice"):
-            program(twice)
+            of("Syntax.ty_bool", "Syntax.seq Syntax.skip (Syntax.jump 1)")
 
     def test_length(self):
-        made = program(function("(tyArray (tyInt 8) (lenNew 3))"))
-        with self.assertRaises(Unreadable):
-            made.size(made.functions["a::b"].values[0])
+        with self.assertRaisesRegex(Unreadable, "ty_array_p"):
+            self.size(of("(Syntax.ty_array_p (Syntax.ty_int Syntax.w8) 3)"))
 
     def test_call_of_no_function_by_name(self):
-        with self.assertRaisesRegex(Unreadable, "by name"):
-            program(function("tyBool", "(call (behind (place 1 lnil)) lnil (place 0 lnil))"))
+        for callee in ("(Syntax.prim Syntax.loaded)", "(Syntax.forked Syntax.tnil C.name)"):
+            with self.assertRaisesRegex(Unreadable, "by name"):
+                of("Syntax.ty_bool", f"Syntax.call {callee} List.[] (Syntax.place 0 List.[])")
+        with self.assertRaisesRegex(Unreadable, "the step call_v"):
+            of("Syntax.ty_bool", "Syntax.call_v Syntax.opd_unit 1 List.[] 1")
 
     def test_function_without_a_body(self):
-        call = '(call (direct (fnRef "c::d")) lnil (place 0 lnil))'
-        with self.assertRaisesRegex(Unreadable, "c::d"):
-            program(function("tyBool", call)).reached(["a::b"])
+        call = '(call (fn "c::d" tnil dnil) [] (place 0 []))'
+        made = Program({"a::b": Function("a::b", ["ty_bool"], 0, plain(call))}, {}, Kits())
+        with self.assertRaisesRegex(Unreadable, "c::d is called, and has no body"):
+            made.reached(["a::b"])
 
     def test_call_that_is_not_there(self):
         with self.assertRaisesRegex(Unreadable, "block::read"):
-            refusals(program(function("tyBool")))
-
-    def test_text(self):
-        for text in ("", "program (lnil", "program lnil)", "other lnil lnil",
-                     "program (lcons (const-def 1 (fnItem)) lnil) lnil",
-                     "program (lcons (fn-def 1 (constant)) lnil) lnil"):
-            with self.subTest(text), self.assertRaises(Unreadable):
-                program(text)
+            refusals(of("Syntax.ty_bool"))
 
 
-class Crates(InFolder):
-    def written(self, **files):
-        """Whether a crate of these files has code."""
-        (self.crates / "src").mkdir(exist_ok=True)
-        for name, text in files.items():
-            (self.crates / "src" / f"{name}.rt").write_text(text)
-        return has_code(self.crates)
+CALL = "(call {} (◌∷◌ opd_unit []) (place 0 []))"
+FILL = '(fn "a::fill" (tcons (ty_int w8) tnil) {})'
+IMPL = '(impl (◌∷◌ "a::one" (◌∷◌ "a::other" [])) (tcons (ty_int w16) tnil) dnil)'
 
-    def test_code(self):
-        self.assertTrue(self.written())     # the compiler says that there is no file
-        self.assertFalse(self.written(lib="// Statements.\n\n  // No code.\n"))
-        self.assertTrue(self.written(more="fn f() {}\n"))
 
-    def test_root(self):
-        self.written(lib="")
-        self.assertEqual(root(self.crates).name, "lib.rt")
-        self.written(main="")
-        self.assertEqual(root(self.crates).name, "main.rt")
+class Calls(unittest.TestCase):
+    """a::fill is for any type, and calls a method of what it is handed; a::other is one,
+    for any type, too."""
 
-    def test_others_are_left_out(self):
-        text = function("tyBool", '(foreign "write" lnil)')
-        self.assertEqual(program(text, {"b"}).functions, {})
-        with self.assertRaisesRegex(Unreadable, "the step foreign"):
-            program(text, {"a"})
+    def program(self, dictionary):
+        method = "(method (given 0) 1 (tuple tnil dnil))"
+        kinds = [["ty_array", ["ty_param", "0"], "2"]]
+        bodies = {"a::start": CALL.format(FILL.format(f"(dcons {dictionary} dnil)")),
+                  "a::fill": CALL.format(method), "a::one": "return", "a::other": "return"}
+        return Program({name: Function(name, kinds if name != "a::start" else ["ty_unit"], 0,
+                                       plain(body.replace("(tuple tnil dnil)", "(tnil, dnil)")))
+                        for name, body in bodies.items()}, {})
 
-    def test_needs(self):
-        own, theirs = needs()
-        self.assertIn("capi", own)
-        self.assertNotIn("cabinet", own)
-        self.assertEqual(theirs, ["std", "bytes"])
-        self.assertIn("io", needs(["cabinet"])[1])
+    def test_what_is_reached_at_its_types(self):
+        made = self.program(IMPL)
+        found = made.reached(["a::start"])
+        self.assertEqual([function.name for function in found],
+                         ["a::start", "a::fill<u8>", "a::other<u16>"])
+        self.assertEqual([made.size(function.values[0]) for function in found], [0, 2, 4])
+        self.assertEqual([function.name for function in
+                          made.reached(["a::start"], {"a::fill<u8>"})], ["a::start"])
+
+    def test_what_is_mentioned(self):
+        self.assertEqual(self.program(IMPL).mentioned(["a::start"]),
+                         {"a::start", "a::fill", "a::one", "a::other"})
+        self.assertEqual(self.program(IMPL).mentioned(["a::fill"]), {"a::fill"})
+
+    def test_method_of_something_handed_in(self):
+        with self.assertRaisesRegex(Unreadable, "a method of"):
+            self.program("(given 0)").reached(["a::fill"])
+        with self.assertRaisesRegex(Unreadable, "a parameter 0 without"):
+            self.program(IMPL).reached([plain(FILL.format("dnil"))])
+
+    def test_what_is_called(self):
+        for callee, name in ((FILL.format("dnil"), "a::fill"),
+                             ("(method (given 0) 1 (tnil, dnil))", "method 1 of 0")):
+            self.assertEqual(called(plain(CALL.format(callee))), name)
+
+
+class OfTheKit(unittest.TestCase):
+    def test_copy(self):
+        made = Program({}, {}, Kits())
+        copy = plain('(fn "core::slice::edits::slice+T::copy_from_slice" '
+                     "(tcons (ty_int w8) tnil) (dcons (impl (◌∷◌ "
+                     '"core::clone::U8Clone::clone" []) tnil dnil) dnil))')
+        found = made.reached([copy])
+        self.assertEqual(found[0].name, "core::slice::edits::slice+T::copy_from_slice<u8>")
+        self.assertEqual([made.written(kind) for kind in found[0].parameters],
+                         ["&mut [u8]", "&[u8]"])
+        self.assertGreater(len(found), 3)
+        self.assertTrue(all(function.name.startswith("core::") for function in found))
 
 
 if __name__ == "__main__":

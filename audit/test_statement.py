@@ -6,17 +6,17 @@ import unittest
 
 sys.dont_write_bytecode = True
 
-from lowered import Unreadable
+from terms import Unreadable
 from planted import InFolder, replaced
 from stated import state
 from statement import LINE, STATEMENT, THEOREM, is_proved, named
 
 LABELS, INVERSES = "code::labels", "field::table::inverses_from"
 BOTH = {LABELS: "Table0", INVERSES: "Table1"}
-FIELD = "  pub table-1 : Table1 (λ r. r ≡ worked-out 1)\n"
-IMPORT = "use Rattle·field.proofs.Constants.{Table1}\n"
-TABLE = "Table1 P = (κs : Lifetimes.Lfts 0) (a : ℕ) (r : ℕ)\n"
-LEARNT = "  → reads-1.Learnt κs a r → P (a .0) r\n"
+FIELD = "  pub table_1 : Table1 (λ r. r ≡ worked_out 1)\n"
+IMPORT = "use Rattle.field.proofs.Constants.{Table1}\n"
+TABLE = "Table1 P = (κs : Lifetimes.Lfts 0) (a : World.ArgsD of_1.signature κs)\n"
+LEARNT = "    → reads_1.Learnt κs a r s → P r\n"
 
 
 class Statement(InFolder):
@@ -39,7 +39,7 @@ class Named(Statement):
         self.assertEqual(self.names(), BOTH)
 
     def test_field_of_several_lines(self):
-        self.assertEqual(self.names((FIELD, "  pub table-1 :\n    Table1\n    -- so\n"
+        self.assertEqual(self.names((FIELD, "  pub table_1 :\n    Table1\n    -- so\n"
                                             "\n      (λ r. r ≡ 1)\n")), BOTH)
 
     def test_field_of_two(self):
@@ -49,7 +49,7 @@ class Named(Statement):
         self.assertEqual(self.names((FIELD, "--" + FIELD)), {LABELS: "Table0"})
 
     def test_not_behind_a_field(self):
-        self.assertEqual(self.names((FIELD, "  pub table-1 : ℕ  -- Table1 (λ r. r)\n")),
+        self.assertEqual(self.names((FIELD, "  pub table_1 : ℕ  -- Table1 (λ r. r)\n")),
                          {LABELS: "Table0"})
 
     def test_not_by_an_import(self):
@@ -63,7 +63,7 @@ class Named(Statement):
                          {LABELS: "Table0"})
 
     def test_not_beside_the_record(self):
-        self.assertEqual(self.names((FIELD, "\nabbrev pub Other : Type 1\n"
+        self.assertEqual(self.names((FIELD, "\nabbrev pub Other : Type 0\n"
                                             "Other = Table1 (λ r. r ≡ 1)\n")),
                          {LABELS: "Table0"})
 
@@ -76,13 +76,13 @@ class Named(Statement):
                          {LABELS: "Table0", INVERSES: "Inverses"})
 
     def test_import_of_two(self):
-        self.edit(None, "\nabbrev pub Other : Type 1\nOther = ℕ\n",
+        self.edit(None, "\nabbrev pub Other : Type 0\nOther = ℕ\n",
                   "field/proofs/Constants.antt")
         self.assertEqual(self.names((IMPORT, IMPORT.replace("{", "{Other,\n  "))), BOTH)
 
     def test_name_that_says_nothing_learnt(self):
         for line in ("  → P 0 0\n", "--" + LEARNT, LEARNT.replace("reads", "of"),
-                     LEARNT.replace("Learnt", "Learnt-not")):
+                     LEARNT.replace("Learnt", "Learnt_not")):
             with self.subTest(line):
                 self.setUp()
                 self.edit(LEARNT, line, "field/proofs/Constants.antt")
@@ -119,10 +119,10 @@ class Unread(Statement):
 
     def test_two_records(self):
         self.refused("no record EveryTable",
-                     (None, "\npub record EveryTable : Type 1 where\n  pub a : ℕ\n"))
+                     (None, "\npub record EveryTable : Type 0 where\n  pub a : ℕ\n"))
 
     def test_no_field(self):
-        for line in ("  table-1 : Table1 (λ r. r)\n", "  pub mod Table1\n"):
+        for line in ("  table_1 : Table1 (λ r. r)\n", "  pub mod Table1\n"):
             with self.subTest(line):
                 self.setUp()
                 self.refused("no field", (FIELD, line))

@@ -6,7 +6,8 @@ it is, or to a function that only hands it on there; and nothing else.  Its byte
 characters and ends of lines, and none is a digit: those would be numbers, written out.
 """
 
-from lowered import SLICE, items, parts
+from lowered import SLICE, called
+from terms import items, parts
 from tables import place
 
 PUT = ("text::put", 1)      # what puts words into the output, and as which parameter
@@ -25,7 +26,7 @@ def mentioned(term):
 
 def is_length(what):
     """Whether a slice's length is all that is copied."""
-    return (what[0] == "rvOpd" and what[1][0] == "copy"
+    return (what[0] == "rv_opd" and what[1][0] == "copy"
             and items(what[1][1][2]) == [["field", "1"]])
 
 
@@ -33,16 +34,16 @@ def goes_on(function, to, what):
     """Whether what is copied or lent goes, whole, where it can only be read."""
     value, part = place(to)
     kind = function.values[value]
-    if part or value == 0 or what[0] not in ("rvOpd", "addrOf", "aggregate"):
+    if part or value == 0 or what[0] not in ("rv_opd", "addr_of", "aggregate"):
         return False
     kind = items(kind[2])[0] if kind[:2] == SLICE else kind
-    return kind[0] == "tyArray" or (kind[0] == "tyRef" and kind[2] == "imm")
+    return kind[0] == "ty_array" or (kind[0] == "ty_ref" and kind[1] == "imm")
 
 
 def hands(step, values, put):
     """Whether a call hands these on only as words."""
     return not values & mentioned(step[3]) and all(
-        (step[1][1][1], at) in put for at, handed in enumerate(items(step[2]), 1)
+        (called(step), at) in put for at, handed in enumerate(items(step[2]), 1)
         if values & mentioned(handed))
 
 
