@@ -67,9 +67,9 @@ PLANTS = {
     "arrays in the programs": Plant(
         [before("cabinet", OUTPUT, "    let t = [2, 3u8];\n", "main"),
          before("tables", OUTPUT, "    let t = [1, 4u8];\n", "main")],
-        ("cabinet::main: an array of 2: 2, 3" + UNNAMED,
-         "tables::main: an array of 2: 1, 4" + UNNAMED,
-         "tables::main: it can reach tables::main, which has a constant table")),
+        ("cabinet::print_reading: an array of 2: 2, 3" + UNNAMED,
+         "tables::print_sheet: an array of 2: 1, 4" + UNNAMED,
+         "tables::main: it can reach tables::print_sheet, which has a constant table")),
     "array in a crate that had no code": Plant(
         [behind("base", "\npub fn bits() -> [u8; 2] {\n    [1, 2]\n}\n")],
         ("base::bits: an array of 2: 1, 2" + UNNAMED,)),
