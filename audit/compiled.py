@@ -3,8 +3,9 @@
 `rattle check --generated`, the command behind `rt check`, prints the modules that a
 proof rests on, each function's code among them, whether or not anything is proved.  To
 print all takes some minutes of processor time, and to print one function (`--start`) a
-few seconds.  So what was printed is kept in built/lowered, each function's code under a
-key for all that it depends on, and is printed again only where that has changed.
+few seconds, most of them to begin.  So what was printed is kept in built/lowered, each
+function's code under a key for all that it depends on, and is printed again only where
+that has changed, with nothing around it but that; of several copies of the source at once.
 """
 
 import os
@@ -54,8 +55,8 @@ def complaint(said):
 
 
 def printed(files, theirs, starts=()):
-    """The modules with the code of these crates, by the function; or only of these
-    functions, which are in the last of the crates.  `theirs` are the kit's."""
+    """The modules with the code of these crates, by the function; or of the only crate
+    these functions alone.  `theirs` are the kit's."""
     home = kit()
     named = set().union(*map(words, files.values()))
     with tempfile.TemporaryDirectory() as made:
@@ -69,14 +70,14 @@ def printed(files, theirs, starts=()):
         above = Path(made) / "above" / "src" / "lib.rt"     # of all, with nothing in it
         above.parent.mkdir(parents=True)
         above.write_text("")
-        name = list(roots)[-1] if starts else "above"
-        asked = ["--crate-name", name, roots.pop(name, above)]
+        first = list(roots)[0] if starts else "above"
+        asked = ["--crate-name", first, roots.pop(first, above)]
         for name, path in roots.items():
             asked += ["--lib", f"{name}={path}"]
         for name in [name for name in theirs if name in named] or ["core"]:
             asked += ["--extern", f"{name}={home / 'rlibs' / name}.rlib"]
         for name in starts:
-            asked += ["--start", name.partition("::")[2]]
+            asked += ["--start", name]
         asked += ["-L", f"dependency={home / 'rlibs'}", "--logic-built", home / "logic_built",
                    "--antt-project", home / "rattle" / "logic" / "antt-project.json"]
         done = subprocess.run([home / "bin" / "rattle", "check", *asked, "--generated", to],
@@ -103,45 +104,68 @@ def name_of(path):
 
 # ---- and what is kept of it
 
-def kept(key):
-    path = KEPT / key
-    return path.read_text() if path.exists() else None
+class Copy:
+    """The source of crates in a folder: the code of its functions, as far as it is kept."""
+
+    def __init__(self, crates, starts=None):
+        own, self.theirs = needs(listed() if starts is None else starts)
+        own = [name for name in own if has_code(crates / name)]
+        self.files = plain(crates, own)
+        kit_id = (kit() / "KIT-ID").read_text()
+        try:
+            self.source = Source(crates, own)
+            self.keys = {name: self.source.key(name, kit_id) for name in self.source.functions}
+        except Unread:
+            self.source, self.keys = None, {}
+
+    @property
+    def missing(self):
+        return [name for name, key in self.keys.items() if not (KEPT / key).exists()]
+
+    def keep(self, made):
+        """Keeps what was printed of those that are missing."""
+        KEPT.mkdir(parents=True, exist_ok=True)
+        for name in self.missing:
+            if name in made:
+                number, path = tempfile.mkstemp(dir=KEPT)
+                with os.fdopen(number, "w") as file:
+                    file.write(made[name])
+                os.replace(path, KEPT / self.keys[name])
+
+    def all(self):
+        """What the compiler prints of all of it."""
+        return printed(self.files, self.theirs)
+
+    def code(self):
+        """The module with the code of each function."""
+        if not self.source:
+            return self.all()
+        if self.missing:
+            together([self])
+        if self.missing:
+            self.keep(self.all())
+        if self.missing:
+            raise Unreadable(f"the compiler prints no code of {', '.join(self.missing)}")
+        return {name: (KEPT / key).read_text() for name, key in self.keys.items()}
 
 
-def keep(key, text):
-    KEPT.mkdir(parents=True, exist_ok=True)
-    number, path = tempfile.mkstemp(dir=KEPT)
-    with os.fdopen(number, "w") as file:
-        file.write(text)
-    os.replace(path, KEPT / key)
-
-
-def codes(crates, starts=None):
-    """The modules with the code of every function of the crates that these are made of."""
-    own, theirs = needs(listed() if starts is None else starts)
-    own = [name for name in own if has_code(crates / name)]
+def together(copies):
+    """Has the compiler print what is missing of several copies, if it is not much of
+    each, as modules of one crate.  What it does not take so is not kept."""
+    copies = [copy for copy in copies if 0 < len(copy.missing) <= FEW]
+    if not copies:
+        return
+    path, texts, starts = "crate::copy{}", [], {}
+    for number, copy in enumerate(copies):
+        texts.append(f"mod copy{number} {{\n"
+                     f"{copy.source.module(copy.missing, path.format(number))}}}\n")
+        starts.update({f"copies::copy{number}::{name}": (copy, name) for name in copy.missing})
+    theirs = list(dict.fromkeys(name for copy in copies for name in copy.theirs))
     try:
-        source = Source(crates, own)
-    except Unread:
-        return printed(plain(crates, own), theirs)
-    kit_id = (kit() / "KIT-ID").read_text()
-    keys = {name: source.key(name, kit_id) for name in source.functions}
-    found = {name: kept(key) for name, key in keys.items()}
-    missing = [name for name in keys if found[name] is None]
-    made = (printed(plain(crates, own), theirs) if len(missing) > FEW else
-            one_by_one(source, missing, theirs))
-    for name in missing:
-        if name not in made:
-            raise Unreadable(f"the compiler prints no code of {name}")
-        found[name] = made[name]
-        keep(keys[name], made[name])
-    return found
-
-
-def one_by_one(source, names, theirs):
-    """What the compiler prints of these functions, by what each crate's depend on."""
-    found = {}
-    for crate in dict.fromkeys(name.split("::")[0] for name in names):
-        inside = [name for name in names if name.split("::")[0] == crate]
-        found.update(printed(source.pruned(inside), theirs, inside))
-    return found
+        made = printed({Path("copies/src/lib.rt"): "".join(texts)}, theirs,
+                       [name.partition("::")[2] for name in starts])
+    except Unreadable:
+        return
+    for copy in copies:
+        copy.keep({name: made[long] for long, (of, name) in starts.items()
+                   if of is copy and long in made})

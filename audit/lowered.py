@@ -6,12 +6,13 @@ name, and a value that the source does not name has a place of its own.  Of a fu
 the kit, which is written for any types, this is what it comes to at those of a call.
 """
 
+import functools
 import json
 import sys
 from dataclasses import dataclass, field
 
-from compiled import codes, kit, printed
-from source import ROOT, has_code, listed, needs, root
+from compiled import Copy, kit
+from source import ROOT
 from terms import EMPTY, Held, Printed, Unreadable, at, items, parts
 
 sys.setrecursionlimit(100000)       # a body is as deep as it has statements
@@ -92,7 +93,7 @@ def is_reference(kind):
 class Program:
     functions: dict     # by name
     types: dict         # the structs and enums, by name
-    kits: object = None     # where the functions of the kit are
+    kit_too: bool = False   # whether the functions of the kit are followed
 
     def declare(self, types):
         for name, shape in types:
@@ -103,11 +104,13 @@ class Program:
 
     def named(self, name):
         """The function of this name, of the source or of the kit."""
-        if name not in self.functions:
-            if not self.kits or not self.kits.has(name):
-                raise Unreadable(f"{name} is called, and has no body here")
-            return self.kits.function(name, self)
-        return self.functions[name]
+        if name in self.functions:
+            return self.functions[name]
+        held = library(kit(), name.split("::")[0]).get(name) if self.kit_too else None
+        if not held:
+            raise Unreadable(f"{name} is called, and has no body here")
+        self.declare(Held(held).types())
+        return function(name, Held(held).function())
 
     def instance(self, callee):
         """What a call comes to."""
@@ -227,42 +230,34 @@ def function(name, code):
                     int(code["params"]), code["body"])
 
 
-def program(modules, kits=None):
+@functools.cache
+def read(name, text):
+    """The function of a module, and the types that it lays out."""
+    code, types = Printed(text).function()
+    return function(name, code), types
+
+
+def program(modules, kit_too=False):
     """The program of these modules, each with a function's code."""
-    made = Program({}, {}, kits)
+    made = Program({}, {}, kit_too)
     for name, text in modules.items():
-        code, types = Printed(text).function()
-        made.functions[name] = function(name, code)
+        made.functions[name], types = read(name, text)
         made.declare(types)
     return made
 
 
-class Kits:
-    """The functions of the kit's libraries."""
-
-    def __init__(self):
-        self.read = {}
-
-    def library(self, crate):
-        if crate not in self.read:
-            path = kit() / "rlibs" / f"{crate}.rlib" / "toolchain" / "mir.json"
-            self.read[crate] = dict(json.loads(path.read_text())) if path.exists() else {}
-        return self.read[crate]
-
-    def has(self, name):
-        return name in self.library(name.split("::")[0])
-
-    def function(self, name, into):
-        held = Held(self.library(name.split("::")[0])[name])
-        into.declare(held.types())
-        return function(name, held.function())
+@functools.cache
+def library(home, crate):
+    """What a library of the kit has, by the function."""
+    path = home / "rlibs" / f"{crate}.rlib" / "toolchain" / "mir.json"
+    return dict(json.loads(path.read_text())) if path.exists() else {}
 
 
 def lower(crates=ROOT / "crates"):
     """The library in this folder, with what it needs of the kit."""
-    return program(codes(crates, ["capi"]), Kits())
+    return program(Copy(crates, ["capi"]).code(), kit_too=True)
 
 
 def lower_all(crates=ROOT / "crates"):
     """Every crate in this folder, the programs too, without what is the kit's."""
-    return program(codes(crates))
+    return program(Copy(crates).code())

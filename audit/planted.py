@@ -8,7 +8,8 @@ import unittest
 from concurrent.futures import ThreadPoolExecutor
 from pathlib import Path
 
-from source import ROOT
+from compiled import Copy, together
+from source import ROOT, needs
 
 
 def replaced(path, old, new):
@@ -38,24 +39,30 @@ class InFolder(unittest.TestCase):
 
 
 class Planted(unittest.TestCase):
-    """What is said of each plant.  The compiler looks at several copies at a time."""
+    """What is said of each plant, in a copy of what `starts` are made of.  The compiler
+    looks at several copies at once, and in several processes."""
+
+    TOGETHER = 6
 
     @classmethod
     def setUpClass(cls):
-        cls.said_of_none()          # what the copies have in common is then kept
-        pool = ThreadPoolExecutor(len(os.sched_getaffinity(0)))
-        cls.addClassCleanup(pool.shutdown)
-        cls.found = {name: pool.submit(cls.looked, plant) for name, plant in cls.plants.items()}
-
-    @classmethod
-    def looked(cls, plant):
-        with tempfile.TemporaryDirectory() as folder:
-            return cls.said(plant, Path(folder))
+        Copy(ROOT / "crates", cls.starts).code()    # what the copies have in common is kept
+        folder = tempfile.TemporaryDirectory()
+        cls.addClassCleanup(folder.cleanup)
+        cls.folders, copies = {}, []
+        for name, plant in cls.plants.items():
+            cls.folders[name] = Path(folder.name) / str(len(cls.folders))
+            cls.folders[name].mkdir()
+            planted(plant.edits, cls.folders[name], needs(cls.starts)[0])
+            copies.append(Copy(cls.folders[name], cls.starts))
+        groups = [copies[at:at + cls.TOGETHER] for at in range(0, len(copies), cls.TOGETHER)]
+        with ThreadPoolExecutor(len(os.sched_getaffinity(0))) as pool:
+            list(pool.map(together, groups))
 
 
 def planting(name, plant):
     def test(self):
-        found = self.found[name].result()
+        found = self.said(self.folders[name])
         for begins in plant.says:
             self.assertTrue(any(line.startswith(begins) for line in found), found)
         if not plant.and_more:
@@ -65,7 +72,7 @@ def planting(name, plant):
 
 
 def tests_of(plants, case):
-    """Makes a test of each plant, in a class that has `said` and `said_of_none`."""
+    """Makes a test of each plant, in a class that has `starts` and `said`."""
     case.plants = plants
     for number, (name, plant) in enumerate(plants.items(), 1):
         setattr(case, f"test_{number:02}_{name.replace(' ', '_')}", planting(name, plant))

@@ -270,12 +270,45 @@ class Source:
 
     def pruned(self, names):
         """The source with no more than these functions depend on: a text for each file,
-        by its path below the crates."""
-        needed = {id(item): item for name in names for _, item in self.needed(name)}
+        by its crate and then its path below the crate's src."""
+        needed = {id(item) for name in names for _, item in self.needed(name)}
         whole = [self.functions[name][1] for name in names]
         found, crates = {}, {name.split("::")[0] for name in names}
         for file in self.files:
             kept = [item for item in file.items if id(item) in needed or item.kind == "mod"]
-            found[Path(file.crate) / "src" / file.path] = file.pruned(kept, whole)
+            found.setdefault(file.crate, {})[file.path] = file.pruned(kept, whole)
             crates |= {file.crate for item in kept if item.kind != "mod"}
-        return {path: text for path, text in found.items() if path.parts[0] in crates}
+        return {crate: files for crate, files in found.items() if crate in crates}
+
+    def module(self, names, path):
+        """The same as the text of a module of this path, with a module for each crate."""
+        found, texts = self.pruned(names), []
+        for crate, files in found.items():
+            own = {file.stem for file in files}
+            begins = next(file for file in files if file.stem in ROOTS)
+            text = with_modules(begins, files)
+            texts.append(f"pub mod {crate} {{\n{renamed(text, sorted(set(found) - own), path)}\n}}\n")
+        return "".join(texts)
+
+
+def with_modules(file, files):
+    """The text of a file with that of the modules that it names."""
+    folder = file.parent if file.stem in ROOTS else file.with_suffix("")
+
+    def inside(found):
+        return f"mod {found[1]} {{{with_modules(folder / f'{found[1]}.rt', files)}}}"
+
+    return re.sub(r"\bmod (\w+);", inside, files[file])
+
+
+EXPORT = r"#\[unsafe\(no_mangle\)\]|\bextern\s+(?=fn\b)"
+
+
+def renamed(text, crates, path):
+    """A text in which the names of these crates stand below a path, and that exports
+    nothing to C."""
+    said, at, names = [], 0, "|".join(crates) or "(?!)"
+    for found in re.finditer(rf"{EXPORT}|(?<![\w:])({names})(?=::)", code_of(text)):
+        said += [text[at:found.start()], f"{path}::{found[1]}" if found[1] else ""]
+        at = found.end()
+    return "".join([*said, text[at:]])

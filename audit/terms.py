@@ -21,6 +21,7 @@ class Unreadable(Exception):
 
 
 TOKEN = re.compile(r'"[^"]*"|[(){},;]|[^\s(){},;"]+')
+COPY = re.compile(r"^copies::copy\d+::")       # where a copy of the source is read
 HOME = re.compile(r"(?:Syntax|List|Table|MapTy|Ieee)'*\d*\.(?=.)")
 PAIRS = {"◌∷◌", "tcons", "ttcons", "dcons", "ccons"}
 ENDS = {"[]", "tnil", "ttnil", "dnil", "cnil"}
@@ -83,22 +84,23 @@ def term(text):
 
 def text_of(found):
     """A type's name: its bytes."""
-    return bytes(map(int, items(found))).decode()
+    return COPY.sub("", bytes(map(int, items(found))).decode())
 
 
 class Printed:
     """A module as the compiler prints it."""
 
     DEFINITION = re.compile(r"^abbrev pub (\S+) :.*\n\1 =", re.M)
-    SYMBOL = re.compile(r"^use Rattle\.(\w+)\.proofs\.(\S+)\.Symbol(?: as (\S+))?$", re.M)
-    KEY = re.compile(r"^use Rattle\.(\w+)\.specs\.contracts\.(\S+)\.Key(?: as (\S+))?$", re.M)
+    HOME = r"^use Rattle\.(?:\w+\.below\.)?(\w+)"
+    SYMBOL = re.compile(HOME + r"\.proofs\.(\S+)\.Symbol(?: as (\S+))?$", re.M)
+    KEY = re.compile(HOME + r"\.specs\.contracts\.(\S+)\.Key(?: as (\S+))?$", re.M)
 
     def __init__(self, text):
         self.called = {}
         for pattern, own in ((self.SYMBOL, "Symbol"), (self.KEY, "Key")):
             for crate, path, alias in pattern.findall(text):
                 name = "::".join([crate, *path.split(".")])
-                self.called[f"{alias or own}.name"] = name
+                self.called[f"{alias or own}.name"] = COPY.sub("", name)
         begins = list(self.DEFINITION.finditer(text))
         ends = [found.start() for found in begins[1:]] + [len(text)]
         self.texts = {found[1]: text[found.end():to] for found, to in zip(begins, ends)}
@@ -129,7 +131,7 @@ class Printed:
                 return EMPTY
             if read in self.called:
                 return ["fn", self.called[read], EMPTY, EMPTY]
-            return self.definition(read) if read in self.texts else read.strip('"')
+            return self.definition(read) if read in self.texts else COPY.sub("", read.strip('"'))
         head, *rest = read
         if head in PAIRS:
             return self.members(read)

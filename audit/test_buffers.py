@@ -16,13 +16,9 @@ from source import ROOT, needs
 
 
 class Buffers(Planted):
-    @classmethod
-    def said_of_none(cls):
-        return lower()
+    starts = ["capi"]
 
-    @classmethod
-    def said(cls, plant, crates):
-        planted(plant.edits, crates, needs()[0])
+    def said(self, crates):
         return refusals(lower(crates))
 
 

@@ -27,6 +27,7 @@ TABLES = ["code::labels", "field::table::inverses_from", "slip::limits::behind",
 UNNAMED = f"; crates/{STATEMENT} does not name it"
 
 OUTPUT = "    let mut out = [0u8; "
+PRINTS = "    print_sheet(&mut rt.stdout())"
 
 KIND = """
 fn weight(k: Kind) -> u8 {
@@ -66,9 +67,12 @@ PLANTS = {
         ("bank::patrol: an array of 3: 3, 1, 2" + UNNAMED,)),
     "arrays in the programs": Plant(
         [before("cabinet", OUTPUT, "    let t = [2, 3u8];\n", "main"),
-         before("tables", OUTPUT, "    let t = [1, 4u8];\n", "main")],
+         before("tables", OUTPUT, "    let t = [1, 4u8];\n", "main"),
+         before("tables", PRINTS, "    let t = [5, 6u8];\n", "main")],
         ("cabinet::print_reading: an array of 2: 2, 3" + UNNAMED,
+         "tables::main: an array of 2: 5, 6" + UNNAMED,
          "tables::print_sheet: an array of 2: 1, 4" + UNNAMED,
+         "tables::main: it can reach tables::main, which has a constant table",
          "tables::main: it can reach tables::print_sheet, which has a constant table")),
     "array in a crate that had no code": Plant(
         [behind("base", "\npub fn bits() -> [u8; 2] {\n    [1, 2]\n}\n")],
@@ -134,13 +138,9 @@ def refused(found, crates):
 class Tables(Planted):
     """With a small statement that names every table of the source."""
 
-    @classmethod
-    def said_of_none(cls):
-        return everything()
+    starts = list(listed())
 
-    @classmethod
-    def said(cls, plant, crates):
-        planted(plant.edits, crates, listed())
+    def said(self, crates):
         state(crates, TABLES)
         lowered = lower_all(crates)
         found = tables(lowered)

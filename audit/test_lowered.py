@@ -6,7 +6,7 @@ import unittest
 sys.dont_write_bytecode = True
 
 from buffers import refusals
-from lowered import Function, Kits, Program, called, program
+from lowered import Function, Program, called, program
 from terms import EMPTY, Printed, Unreadable, term
 
 
@@ -107,7 +107,7 @@ class Unknown(unittest.TestCase):
 
     def test_function_without_a_body(self):
         call = '(call (fn "c::d" tnil dnil) [] (place 0 []))'
-        made = Program({"a::b": Function("a::b", ["ty_bool"], 0, plain(call))}, {}, Kits())
+        made = Program({"a::b": Function("a::b", ["ty_bool"], 0, plain(call))}, {}, True)
         with self.assertRaisesRegex(Unreadable, "c::d is called, and has no body"):
             made.reached(["a::b"])
 
@@ -162,7 +162,7 @@ class Calls(unittest.TestCase):
 
 class OfTheKit(unittest.TestCase):
     def test_copy(self):
-        made = Program({}, {}, Kits())
+        made = Program({}, {}, True)
         copy = plain('(fn "core::slice::edits::slice+T::copy_from_slice" '
                      "(tcons (ty_int w8) tnil) (dcons (impl (◌∷◌ "
                      '"core::clone::U8Clone::clone" []) tnil dnil) dnil))')

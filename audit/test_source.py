@@ -10,7 +10,7 @@ sys.dont_write_bytecode = True
 from planted import InFolder, planted
 from plants import ARRAYS, before, behind
 from source import (ROOT, Source, Unread, code_of, end, has_code, imports, items, leaves, listed,
-                    needs, root, told, without_contracts)
+                    needs, renamed, root, told, with_modules, without_contracts)
 
 CONTRACTS = '''// No requires { here }.
 #![tactic(auto)]
@@ -195,11 +195,9 @@ class Depends(InFolder):
         self.assertNotEqual(source.key("code::labels", "one"), source.key("code::labels", "other"))
 
     def test_pruned(self):
-        source = Source(ROOT / "crates",
-                        [name for name in listed() if has_code(ROOT / "crates" / name)])
-        found = source.pruned(["block::copy_block"])
-        self.assertEqual(list(dict.fromkeys(path.parts[0] for path in found)), ["block"])
-        text = found[Path("block/src/lib.rt")]
+        found = self.whole().pruned(["block::copy_block"])
+        self.assertEqual([list(files) for files in found.values()], [[Path("lib.rt")]])
+        text = found["block"][Path("lib.rt")]
         self.assertIn("fn copy_block(from: &[u8], to: &mut [u8])", text)
         self.assertIn("piece.copy_from_slice", text)
         self.assertIn("fn next_start(at: usize) -> usize", text)
@@ -209,6 +207,34 @@ class Depends(InFolder):
         for number, line in enumerate(text.split("\n")):
             self.assertTrue(not line.strip() or "loop" in line
                             or line.rstrip() == whole[number].rstrip(), line)
+
+    def test_module(self):
+        text = self.whole().module(["capi::encode::of_outcome", "sums::is_zero"], "crate::at")
+        said = told(text)
+        self.assertRegex(said, r"pub mod answer \{.*\} pub mod sums \{.*\} pub mod capi \{.*\}$")
+        self.assertRegex(said, r"mod encode \{ ?use crate::at::answer::Outcome; .*fn of_outcome\(")
+        self.assertNotIn("use answer::", said)
+
+    def whole(self):
+        return Source(ROOT / "crates",
+                      [name for name in listed() if has_code(ROOT / "crates" / name)])
+
+
+class Modules(unittest.TestCase):
+    def test_in_one_another(self):
+        files = {Path("main.rt"): "pub mod a; fn f() {}", Path("a.rt"): "mod b;",
+                 Path("a/b.rt"): "mod c;", Path("a/b/c.rt"): "fn g() {}"}
+        self.assertEqual(with_modules(Path("main.rt"), files),
+                         "pub mod a {mod b {mod c {fn g() {}}}} fn f() {}")
+
+    def test_names_of_crates(self):
+        self.assertEqual(renamed('a::b(a, c::a::d, ab::c, "a::b", e::f) // a::b', ["a", "e"], "z"),
+                         'z::a::b(a, c::a::d, ab::c, "a::b", z::e::f) // a::b')
+        self.assertEqual(renamed("a::b", [], "z"), "a::b")
+
+    def test_exports(self):
+        self.assertEqual(renamed('#[unsafe(no_mangle)]\npub extern "C" fn f()', [], "z"),
+                         "\npub fn f()")
 
 
 if __name__ == "__main__":

@@ -100,6 +100,14 @@ class Modules(unittest.TestCase):
                                      [*EMPTY, impl]])
         self.assertEqual(third[1], ["fn", "a::again", EMPTY, EMPTY])
 
+    def test_other_ways_to_a_name(self):
+        for old, new in (("Rattle.core.", "Rattle.io.below.core."),
+                         ("Rattle.a.proofs.", "Rattle.copies.proofs.copy12.a."),
+                         ("Rattle.a.specs.contracts.", "Rattle.copies.specs.contracts.copy1.a.")):
+            self.assertIn(old, MODULE)
+            self.assertEqual(Printed(MODULE.replace(old, new)).function(),
+                             Printed(MODULE).function())
+
     def test_without_types(self):
         text = "abbrev pub function : Syntax.Fn\nfunction = record {\n  params = 0;\n}\n"
         self.assertEqual(Printed(text).function(), ({"params": "0"}, []))
