@@ -51,13 +51,13 @@ CALLS = ("block::read", "bank::get", "bank::patrol", "bank::report",
            for call in ("read", "get", "patrol", "report", "write_register")))
 
 # A register write has many copies of the registers, which count as no pieces.
-REGISTERS = {"registers::Registers", "registers::Written"}
+REGISTERS = {"registers::Registers"}
 
 # The card search, and the bytes of each thing that it is handed; and what makes the
 # change that it gives.
 SEARCH = "decode::decode"
 HANDED = {"sums::Sums": 9 + 2, "marks::Marks": 5}
-MAKES = "decode::apply"
+MAKES = "decode::Correction::apply"
 
 TABLES = {
     "code::labels":

@@ -6,8 +6,11 @@ print all takes some minutes of processor time, and to print one function (`--st
 few seconds, most of them to begin.  So what was printed is kept in built/lowered, each
 function's code under a key for all that it depends on, and is printed again only where
 that has changed, with nothing around it but that; of several copies of the source at once.
+What the compiler makes of closures and drops is kept by the crate, all of one together.
 """
 
+import hashlib
+import json
 import os
 import re
 import shutil
@@ -16,7 +19,7 @@ import tempfile
 from pathlib import Path
 
 from source import (ROOT, ROOTS, Source, Unread, has_code, listed, needs, root,
-                    without_contracts, words)
+                    has_closure, without_contracts, words)
 from terms import Unreadable
 
 KEPT = ROOT / "built" / "lowered"
@@ -74,7 +77,7 @@ def printed(files, theirs, starts=()):
         asked = ["--crate-name", first, roots.pop(first, above)]
         for name, path in roots.items():
             asked += ["--lib", f"{name}={path}"]
-        for name in [name for name in theirs if name in named] or ["core"]:
+        for name in ["core", *(name for name in theirs if name in named)]:
             asked += ["--extern", f"{name}={home / 'rlibs' / name}.rlib"]
         for name in starts:
             asked += ["--start", name]
@@ -115,8 +118,35 @@ class Copy:
         try:
             self.source = Source(crates, own)
             self.keys = {name: self.source.key(name, kit_id) for name in self.source.functions}
+            self.closures = self.with_closures(own)
         except Unread:
-            self.source, self.keys = None, {}
+            self.source, self.keys, self.closures = None, {}, {}
+
+    def with_closures(self, own):
+        """The crates with closures, each with a key for the code of all of its functions."""
+        crates = {path.parts[0] for path, text in self.files.items() if has_closure(text)}
+        return {crate: hashlib.sha256("\0".join(
+                    ["made", *(key for name, key in sorted(self.keys.items())
+                               if name.startswith(f"{crate}::"))]).encode()).hexdigest()
+                for crate in own if crate in crates}
+
+    def made(self, crate, key):
+        """The functions that the compiler makes for a crate, beside those of its source."""
+        if not (KEPT / key).exists():
+            own, theirs = needs([crate])
+            files = {path: text for path, text in self.files.items() if path.parts[0] in own}
+            more = {name: text for name, text in printed(files, theirs).items()
+                    if name.startswith(f"{crate}::") and name not in self.keys}
+            self.put(key, json.dumps(more))
+        return json.loads((KEPT / key).read_text())
+
+    @staticmethod
+    def put(key, text):
+        KEPT.mkdir(parents=True, exist_ok=True)
+        number, path = tempfile.mkstemp(dir=KEPT)
+        with os.fdopen(number, "w") as file:
+            file.write(text)
+        os.replace(path, KEPT / key)
 
     @property
     def missing(self):
@@ -124,13 +154,9 @@ class Copy:
 
     def keep(self, made):
         """Keeps what was printed of those that are missing."""
-        KEPT.mkdir(parents=True, exist_ok=True)
         for name in self.missing:
             if name in made:
-                number, path = tempfile.mkstemp(dir=KEPT)
-                with os.fdopen(number, "w") as file:
-                    file.write(made[name])
-                os.replace(path, KEPT / self.keys[name])
+                self.put(self.keys[name], made[name])
 
     def all(self):
         """What the compiler prints of all of it."""
@@ -146,7 +172,10 @@ class Copy:
             self.keep(self.all())
         if self.missing:
             raise Unreadable(f"the compiler prints no code of {', '.join(self.missing)}")
-        return {name: (KEPT / key).read_text() for name, key in self.keys.items()}
+        found = {name: (KEPT / key).read_text() for name, key in self.keys.items()}
+        for crate, key in self.closures.items():
+            found |= self.made(crate, key)
+        return found
 
 
 def together(copies):

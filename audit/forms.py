@@ -19,9 +19,9 @@ pub fn paired(a: u8, b: [u8; 3]) -> Pair { Pair { a, b } }
 pub fn pick(i: u8, a: u8, b: u8, c: u8, d: u8) -> u8 { i + a + b + c + d }
 pub fn fill(t: &mut [u8]) { t[0] = 1; }
 pub fn count(x: &mut u8) { *x = *x + 1; }
-pub fn say(t: &[u8], out: &mut [u8]) -> usize { text::put(t, out, 0) }
-pub fn say_at(t: &[u8], out: &mut [u8]) -> usize { text::put(t, out, t.len()) }
-pub fn say_first(t: &[u8], out: &mut [u8]) -> u8 { text::put(t, out, 0); t[0] }
+pub fn say(t: &[u8], out: &mut text::Text) { out.put(t) }
+pub fn say_at(t: &[u8], out: &mut text::Text) { out.at = t.len(); out.put(t) }
+pub fn say_first(t: &[u8], out: &mut text::Text) -> u8 { out.put(t); t[0] }
 """
 
 ARRAYS = """
@@ -224,27 +224,27 @@ pub fn f(i: u64) -> u64 { (0x0102040810204080 >> (8 * i)) % 256 }
 pub fn f(i: u64) -> u64 { (1u8 as u64) << i | (128 >> i) }
 
 # words
-pub fn f(out: &mut [u8]) -> usize { text::put(b"two words:\n", out, 0) }
+pub fn f(out: &mut text::Text) { out.put(b"two words:\n") }
 
 # words handed on
-pub fn f(out: &mut [u8]) -> usize { say(b"words", out) }
+pub fn f(out: &mut text::Text) { say(b"words", out) }
 
 # words of which the length is asked
-pub fn f(out: &mut [u8]) -> usize { say_at(b"words", out) }
+pub fn f(out: &mut text::Text) { say_at(b"words", out) }
 
 # words copied
-pub fn f(out: &mut [u8]) -> usize { let t = *b"abc"; let s = t; text::put(&s, out, 0) }
+pub fn f(out: &mut text::Text) { let t = *b"abc"; let s = t; out.put(&s) }
 
 # words with a number
-pub fn f(n: u64, out: &mut [u8]) -> usize { text::number_line(b"words ", n, out, 0) }
+pub fn f(n: u64, out: &mut text::Text) { out.number_line(b"words ", n) }
 
 # digits
 = an array of 6: 49, 10, 50, 10, ..
-pub fn f(out: &mut [u8]) -> usize { text::put(b"1\n2\n4\n", out, 0) }
+pub fn f(out: &mut text::Text) { out.put(b"1\n2\n4\n") }
 
 # no characters
 = an array of 2: 1, 2
-pub fn f(out: &mut [u8]) -> usize { text::put(&[1, 2], out, 0) }
+pub fn f(out: &mut text::Text) { out.put(&[1, 2]) }
 
 # words lent elsewhere
 = an array of 5: 119, 111, 114, 100, ..
@@ -252,11 +252,11 @@ pub fn f() -> u8 { lent(b"words") }
 
 # words handed on and looked at
 = an array of 5: 119, 111, 114, 100, ..
-pub fn f(out: &mut [u8]) -> u8 { say_first(b"words", out) }
+pub fn f(out: &mut text::Text) -> u8 { say_first(b"words", out) }
 
 # words that are given
 = an array of 3: 97, 98, 99
-pub fn f(out: &mut [u8]) -> [u8; 3] { let t = *b"abc"; text::put(&t, out, 0); t }
+pub fn f(out: &mut text::Text) -> [u8; 3] { let t = *b"abc"; out.put(&t); t }
 
 # words that are all that is given
 = an array of 3: 97, 98, 99
@@ -268,21 +268,21 @@ pub fn f(p: &mut Pair) { p.b = *b"abc"; }
 
 # words in a struct
 = an array of 3: 97, 98, 99
-pub fn f(out: &mut [u8], p: &mut Pair) { let t = *b"abc"; say(&t, out); p.b = t; }
+pub fn f(out: &mut text::Text, p: &mut Pair) { let t = *b"abc"; say(&t, out); p.b = t; }
 
 # words in a new struct
 = an array of 3: 97, 98, 99
-pub fn f(out: &mut [u8]) -> Pair { let t = *b"abc"; say(&t, out); Pair { a: 1, b: t } }
+pub fn f(out: &mut text::Text) -> Pair { let t = *b"abc"; say(&t, out); Pair { a: 1, b: t } }
 
 # words that are written
 = an array of 3: 97, 98, 99
-pub fn f(out: &mut [u8]) { let mut t = *b"abc"; say(&t, out); fill(&mut t); }
+pub fn f(out: &mut text::Text) { let mut t = *b"abc"; say(&t, out); fill(&mut t); }
 
 # words that are looked at
 = an array of 5: 119, 111, 114, 100, ..
-pub fn f(i: usize, out: &mut [u8]) -> u8 {
+pub fn f(i: usize, out: &mut text::Text) -> u8 {
     let t = b"words";
-    text::put(t, out, 0);
+    out.put(t);
     t[i]
 }
 """

@@ -26,21 +26,23 @@ def behind(crate, more, file="lib"):
 
 # ---- the text before which something is planted, in each call
 
-READ = "    let d = correct(received, s, m, out);\n    d.reading"
-CORRECT = "    let d = decode::decode(s, m);\n    let r = d.reading;"
+READ = "    match correct(block, s, m, output) {\n        Ok(made)"
+CORRECT = "    let d = decode::decode(s, m);\n    let Ok(correction)"
 GET = "    block::read_noted(&bank[from..end], m, out, w)"
 PATROL = "    block::mend(&mut bank[start..end], m, w)"
-REPORT = "    class_of(block::look(&bank[at..end], m))"
-MEND = "    let made = decode::decode(s, m);"
+REPORT = "    let mut left = block::four_unclean(four);"
+MEND = "    match decode::decode(s, m) {\n        Ok(made) => {"
+LOOK = "    match decode::decode(s, m) {\n        Ok(seen)"
 NO_MARKS = "    let n = change::count(equations::alone(rows, 0));"
-OVER_CARDS = "    let rows = sums::rows(s);\n    let mut found: u8 = 0;"
-ROWS = "    word(b, 0) ^ word(b, 9)"
-OF_BLOCK = "    }\n}\n\n// The sums of a record"
-OF_RECORD = "    }\n}\n\n// Whether all eleven"
-COPY = "        let mut piece = [0u8; 16];"
+OVER_CARDS = "    let rows = sums::rows(s);\n    let mut held: Option<change::Change> = None;"
+ROWS = "    word(b, i) ^ word(b, 9 + i)"
+WITH_PAIR = "        squared: pairs::squared(v),\n"
+COPY = "    let mut piece = [0u8; 16];"
 FROM_C = "    encode::of_reading(block::read(block, marks::from_slice(m), out))"
-COMMAND = "    let written = registers::write("
-RUN = "    let m = r.marks;\n    match command_of"
+COMMAND = "    registers::write(&mut registers,"
+LABELS = "    let labels = code::labels();\n"
+BEHIND_LABELS = "    let rows = sums::rows(s);\n    let mut held"
+RUN = "    let Some(command) = command_of(*r, v) else {"
 
 
 def first_of(parameters, first):
@@ -68,20 +70,20 @@ ARRAYS = {
          "bank::patrol: its arrays are")),
     "array in report": Plant(
         [before("bank", REPORT, "    let whole = [0u8; 45];\n")],
-        (held("bank::class_at", "[u8; 45], 45 bytes"),
-         "bank::class_at: its arrays are")),
+        (held("bank::count_four", "[u8; 45], 45 bytes"),
+         "bank::count_four: its arrays are")),
     "array in a call from C": Plant(
         [before("capi", FROM_C, "    let whole = [0u8; 45];\n")],
         (held("capi::livomashen_read", "[u8; 45], 45 bytes"),
          "capi::livomashen_read: its arrays are")),
     "array in a register write": Plant(
         [before("capi", COMMAND, "    let whole = [0u8; 45];\n")],
-        (held("capi::livomashen_write_register", "[u8; 45], 45 bytes"),
-         "capi::livomashen_write_register: its arrays are")),
+        (held("capi::write_bytes", "[u8; 45], 45 bytes"),
+         "capi::write_bytes: its arrays are")),
     "array of words": Plant(
         [before("sums", ROWS, "    let mut words = [0u64; 6];\n    words[0] = word(b, 0);\n")],
-        (held("sums::low_rows", "[u64; 6], 48 bytes"),
-         "sums::low_rows: its arrays are")),
+        (held("sums::rows_from", "[u64; 6], 48 bytes"),
+         "sums::rows_from: its arrays are")),
     "array of truth values": Plant(
         [before("decode", NO_MARKS, "    let whole = [false; 45];\n")],
         (held("decode::no_marks", "[bool; 45], 45 bytes"),)),
@@ -131,9 +133,9 @@ STRUCTS = {
     "struct": Plant(
         [behind("sums", "\n#[derive(Clone, Copy)]\nstruct Whole {\n    bytes: [u8; 45],\n}\n"),
          before("sums", ROWS, "    let whole = Whole { bytes: [0; 45] };\n")],
-        (held("sums::low_rows", "[u8; 45], 45 bytes"),
-         held("sums::low_rows", "sums::Whole, 45 bytes"),
-         "sums::low_rows: its arrays are")),
+        (held("sums::rows_from", "[u8; 45], 45 bytes"),
+         held("sums::rows_from", "sums::Whole, 45 bytes"),
+         "sums::rows_from: its arrays are")),
     "struct of five cards": Plant(
         [behind("decode", "\n#[derive(Clone, Copy)]\nstruct Cards {\n    a: [u8; 9],\n    b: [u8; 9],\n"
                           "    c: [u8; 9],\n    d: [u8; 9],\n    e: [u8; 9],\n}\n"),
@@ -145,7 +147,7 @@ STRUCTS = {
                         "    d: u64,\n    e: u64,\n    f: u64,\n}\n"),
          before("sums", ROWS, "    let a = word(b, 0);\n"
                 "    let six = SixWords { a, b: a, c: a, d: a, e: a, f: a };\n")],
-        (held("sums::low_rows", "sums::SixWords, 48 bytes"),)),
+        (held("sums::rows_from", "sums::SixWords, 48 bytes"),)),
     "struct in a struct": Plant(
         [behind("decode", "\n#[derive(Clone, Copy)]\nstruct Inner {\n    bytes: [u8; 36],\n}\n"
                           "\n#[derive(Clone, Copy)]\nstruct Outer {\n    four: Inner,\n    fifth: [u8; 9],\n}\n"),
@@ -158,18 +160,9 @@ STRUCTS = {
         (held("decode::no_marks", "decode::Tried, 45 bytes"),)),
     "longer struct of the source": Plant(
         [("change", "lib", "    pub q: u8,\n", "    pub q: u8,\n    pub found: [u8; 31],\n"),
-         ("change", "lib", "        rows: [0; 9],\n",
-          "        rows: [0; 9],\n        found: [0; 31],\n"),
-         ("change", "lib", "            rows,\n            p: d.q,",
-          "            rows,\n            found: d.found,\n            p: d.q,"),
-         ("decode", "equations", "        rows,\n        p: 0,",
-          "        rows,\n        found: [0; 31],\n        p: 0,"),
-         ("decode", "equations", "        rows: added,\n",
-          "        rows: added,\n        found: [0; 31],\n"),
-         ("decode", "equations", "        rows: both,\n",
-          "        rows: both,\n        found: [0; 31],\n")],
-        (held("block::read", "decode::Decoded, 49 bytes"),
-         "change::apply: parameter 2 is change::Change, 45 bytes",
+         ("decode", "equations", "            rows: both,\n",
+          "            rows: both,\n            found: [0; 31],\n")],
+        ("change::apply: parameter 2 is change::Change, 45 bytes",
          "decode::equations::alone: its result is change::Change, 45 bytes"),
         and_more=True),
 }
@@ -196,16 +189,16 @@ PARAMETERS = {
     "result": Plant(
         [behind("sums", "\nfn blank() -> [u8; 45] {\n    [0; 45]\n}\n"),
          before("sums", ROWS, "    blank();\n")],
-        (held("sums::low_rows", "[u8; 45], 45 bytes"),
+        (held("sums::rows_from", "[u8; 45], 45 bytes"),
          "sums::blank: its result is [u8; 45], 45 bytes",
-         "sums::low_rows: its arrays are")),
+         "sums::rows_from: its arrays are")),
 }
 
 DEEP = {
     "two calls down": Plant(
         [behind("sums", "\nfn one_down(b: &[u8]) -> u64 {\n    two_down(b)\n}\n"
                         "\nfn two_down(b: &[u8]) -> u64 {\n    let mut whole = [0u8; 45];\n"
-                        "    whole[0] = b[0];\n    wide(whole[0])\n}\n"),
+                        "    whole[0] = b[0];\n    u64::from(whole[0])\n}\n"),
          before("sums", ROWS, "    one_down(b);\n")],
         (held("sums::two_down", "[u8; 45], 45 bytes"),
          "sums::two_down: its arrays are")),
@@ -223,17 +216,17 @@ DEEP = {
 
 PIECES = {
     "two arrays": Plant(
-        [before("block", COPY, "        let mut more = [0u8; 29];\n")],
-        ("block::copy_block: its arrays are",)),
+        [before("block", COPY, "    let mut more = [0u8; 29];\n")],
+        ("block::copy_sixteen: its arrays are",)),
     "two arrays of 44 bytes together": Plant(
-        [before("block", COPY, "        let mut more = [0u8; 28];\n")], ()),
+        [before("block", COPY, "    let mut more = [0u8; 28];\n")], ()),
     "two arrays in a register write": Plant(
         [before("registers", RUN, "    let a = [0u8; 23];\n    let b = [0u8; 22];\n")],
         ("registers::run: its arrays are",)),
     "arrays in an enum": Plant(
         [behind("block", "\n#[derive(Clone, Copy)]\nenum Tried {\n    Byte(u8),\n    Half([u8; 15]),\n}\n"),
-         before("block", COPY, "        let a = Tried::Half([0; 15]);\n")],
-        ("block::copy_block: its arrays are",)),
+         before("block", COPY, "    let a = Tried::Half([0; 15]);\n")],
+        ("block::copy_sixteen: its arrays are",)),
     "arrays where a struct is lent bytes": Plant(
         [behind("block", "\n#[derive(Clone, Copy)]\nstruct Lent<'a> {\n    bytes: &'a [u8],\n}\n"
                          "\nfn halves(lent: Lent) -> u8 {\n    let a = [0u8; 23];\n"
@@ -245,22 +238,22 @@ PIECES = {
         ()),
     "arrays in structs": Plant(
         [behind("block", "\n#[derive(Clone, Copy)]\nstruct Half {\n    bytes: [u8; 14],\n    last: u8,\n}\n"),
-         before("block", COPY, "        let half = Half { bytes: [0; 14], last: 0 };\n"
-                               "        let other = half;\n")],
-        ("block::copy_block: its arrays are",)),
+         before("block", COPY, "    let half = Half { bytes: [0; 14], last: 0 };\n"
+                               "    let other = half;\n")],
+        ("block::copy_sixteen: its arrays are",)),
 }
 
 TURNS = {
     "function that calls itself": Plant(
         [behind("sums", "\nfn again(b: &[u8], j: usize) -> u64 {\n"
                         "    if j == 5 {\n        return 0;\n    }\n"
-                        "    let card = [b[j]; 9];\n    again(b, j + 1) ^ wide(card[0])\n}\n"),
+                        "    let card = [b[j]; 9];\n    again(b, j + 1) ^ u64::from(card[0])\n}\n"),
          before("sums", ROWS, "    again(b, 0);\n")],
         ("sums::again: it can reach itself",)),
     "two functions that call each other": Plant(
         [behind("sums", "\n#[cycle(turns)]\nfn odd(b: &[u8], j: usize) -> u64 {\n    even(b, j)\n}\n"
                         "\n#[cycle(turns)]\nfn even(b: &[u8], j: usize) -> u64 {\n"
-                        "    if j == 0 {\n        return wide(b[0]);\n    }\n"
+                        "    if j == 0 {\n        return u64::from(b[0]);\n    }\n"
                         "    odd(b, j - 1)\n}\n"),
          before("sums", ROWS, "    odd(b, 4);\n")],
         ("sums::odd: it can reach itself", "sums::even: it can reach itself")),
@@ -268,13 +261,11 @@ TURNS = {
 
 SEARCH = {
     "search that is lent the block": Plant(
-        [("decode", "lib", "pub fn decode(s: sums::Sums, m: marks::Marks) -> Decoded",
-          "pub fn decode(block: &[u8], s: sums::Sums, m: marks::Marks) -> Decoded"),
+        [("decode", "lib", "pub fn decode(s: sums::Sums, m: marks::Marks)",
+          "pub fn decode(block: &[u8], s: sums::Sums, m: marks::Marks)"),
          ("block", "lib", CORRECT, CORRECT.replace("(s, m)", "(received, s, m)")),
-         ("block", "lib", "let made = decode::decode(s, m)",
-          "let made = decode::decode(block, s, m)"),
-         ("block", "lib", "let seen = decode::decode(s, m)",
-          "let seen = decode::decode(block, s, m)")],
+         ("block", "lib", MEND, MEND.replace("(s, m)", "(block, s, m)")),
+         ("block", "lib", LOOK, LOOK.replace("(s, m)", "(block, s, m)"))],
         ("decode::decode: it is handed {'&[u8]': 0, 'sums::Sums': 11, 'marks::Marks': 5}",
          "decode::decode: it is lent bytes")),
     "search beside it that is lent the block": Plant(
@@ -284,15 +275,15 @@ SEARCH = {
     "search of another name": Plant(
         [("decode", "lib", "pub fn decode(s:", "pub fn find(s:"),
          ("block", "lib", CORRECT, CORRECT.replace("decode(s", "find(s")),
-         ("block", "lib", "let made = decode::decode(s", "let made = decode::find(s"),
-         ("block", "lib", "let seen = decode::decode(s", "let seen = decode::find(s")],
-        ("decode::decode: it is not reached",)),
+         ("block", "lib", MEND, MEND.replace("decode(s", "find(s")),
+         ("block", "lib", LOOK, LOOK.replace("decode(s", "find(s"))],
+        ("decode::decode: it is not reached",
+         # what is no part of the search any more
+         "decode::beside_card: its arrays are",
+         "decode::equations::Equations::with_one: its arrays are")),
     "sums with a byte more": Plant(
         [("sums", "lib", "    pub squared: u8,\n", "    pub squared: u8,\n    pub first: u8,\n"),
-         ("sums", "lib", "        squared: 0,\n",
-          "        squared: 0,\n        first: 0,\n"),
-         ("sums", "lib", OF_BLOCK, "        first: block[0],\n" + OF_BLOCK),
-         ("sums", "lib", OF_RECORD, "        first: 0,\n" + OF_RECORD)],
+         ("sums", "lib", WITH_PAIR, WITH_PAIR + "        first: low as u8,\n")],
         ("decode::decode: it is handed {'sums::Sums': 12, 'marks::Marks': 5}",)),
     "reading that is not followed": Plant(
         [behind("capi", "\n#[unsafe(no_mangle)]\npub extern \"C\" fn livomashen_peek(block: &mut [u8], "
@@ -304,43 +295,32 @@ SEARCH = {
 
 TABLES = {
     "table that is written": Plant(
-        [("decode", "lib", "            let labels = code::labels();\n"
-                           "            over_cards",
-          "            let mut labels = code::labels();\n            labels[0] = s.high;\n"
-          "            over_cards")],
-        (held("decode::decode", "[u8; 45], 45 bytes"),)),
+        [("decode", "lib", LABELS + BEHIND_LABELS,
+          "    let mut labels = code::labels();\n    labels[0] = s.high;\n" + BEHIND_LABELS)],
+        (held("decode::over_cards", "[u8; 45], 45 bytes"),)),
     "table that is lent to be written": Plant(
         [behind("decode", "\nfn fill(b: &mut [u8]) {\n    b[0] = 1;\n}\n"),
-         ("decode", "lib", "            let labels = code::labels();\n"
-                           "            over_cards",
-          "            let mut labels = code::labels();\n            fill(&mut labels);\n"
-          "            over_cards")],
-        (held("decode::decode", "[u8; 45], 45 bytes"),)),
+         ("decode", "lib", LABELS + BEHIND_LABELS,
+          "    let mut labels = code::labels();\n    fill(&mut labels);\n" + BEHIND_LABELS)],
+        (held("decode::over_cards", "[u8; 45], 45 bytes"),)),
     "part of a table that is lent to be written": Plant(
         [behind("decode", "\nfn fill(b: &mut [u8]) {\n    b[0] = 1;\n}\n"),
-         ("decode", "lib", "            let labels = code::labels();\n"
-                           "            over_cards",
-          "            let mut labels = code::labels();\n"
-          "            fill(&mut labels[9..18]);\n            over_cards")],
-        (held("decode::decode", "[u8; 45], 45 bytes"),)),
+         ("decode", "lib", LABELS + BEHIND_LABELS,
+          "    let mut labels = code::labels();\n    fill(&mut labels[9..18]);\n" + BEHIND_LABELS)],
+        (held("decode::over_cards", "[u8; 45], 45 bytes"),)),
     "value that is a table only at first": Plant(
-        [("decode", "lib", "            let labels = code::labels();\n"
-                           "            over_cards",
-          "            let mut labels = code::labels();\n            labels = [s.high; 45];\n"
-          "            over_cards")],
-        (held("decode::decode", "[u8; 45], 45 bytes"),)),
+        [("decode", "lib", LABELS + BEHIND_LABELS,
+          "    let mut labels = code::labels();\n    labels = [s.high; 45];\n" + BEHIND_LABELS)],
+        (held("decode::over_cards", "[u8; 45], 45 bytes"),)),
     "constants of another function": Plant(
         [before("decode", NO_MARKS, "    let sevens = [7u8; 45];\n")],
         (held("decode::no_marks", "[u8; 45], 45 bytes"),)),
     "table with something else in it": Plant(
         [("code", "lib", "pub fn labels() -> [u8; 45]", "pub fn labels(x: u8) -> [u8; 45]"),
          ("code", "lib", "    LABELS\n", "    [x; 45]\n"),
-         ("decode", "lib", "            let labels = code::labels();\n"
-                           "            over_cards",
-          "            let labels = code::labels(s.high);\n            over_cards"),
-         ("decode", "lib", "            let labels = code::labels();\n"
-                           "            under_card",
-          "            let labels = code::labels(s.high);\n            under_card")],
+         ("decode", "lib", LABELS + BEHIND_LABELS,
+          "    let labels = code::labels(s.high);\n" + BEHIND_LABELS),
+         ("decode", "lib", LABELS, "    let labels = code::labels(s.high);\n")],
         ("code::labels: its result is [u8; 45], 45 bytes",)),
     "table with another name": Plant(
         [("sums", "words", "pub(crate) fn card_words(j", "pub(crate) fn words_of(j"),
@@ -350,10 +330,10 @@ TABLES = {
          "sums::words::words_of: its result is [u64; 9], 72 bytes",
          "sums::words::card_words: it is not reached")),
     "copy of a table": Plant(
-        [("decode", "lib", "            let labels = code::labels();\n"
-                           "            over_cards(&labels, s, m)",
-          "            let labels = code::labels();\n            let same = labels;\n"
-          "            over_cards(&same, s, m)")], ()),
+        [("decode", "lib", LABELS + BEHIND_LABELS,
+          LABELS + "    let same = labels;\n" + BEHIND_LABELS),
+         ("decode", "lib", "            labels: &labels,\n            rows,\n            once: field",
+          "            labels: &same,\n            rows,\n            once: field")], ()),
 }
 
 ALL = {**ARRAYS, **COPIES, **STRUCTS, **PARAMETERS, **DEEP, **PIECES, **TURNS, **SEARCH,

@@ -6,8 +6,8 @@ So a file is handed to the compiler without them, line for line: without the cla
 functions, `ghost` items and the choice of tactics.
 
 A function's code is what its own text says, and the items that this names: constants,
-types, and the heads of functions, in its own crate and in those below, and what these
-name in turn.  Where no such text has changed, neither has the code.
+types with all of their methods, and the heads of functions, in its own crate and in those
+below, and what these name in turn.  Where no such text has changed, neither has the code.
 """
 
 import hashlib
@@ -24,7 +24,12 @@ CLAUSE = re.compile(r"\b(?:requires|ensures|ghost(\s+use)?)\b")
 ITEM = re.compile(r'(?:pub(?:\([^)]*\))?\s+)?(?:extern\s+"C"\s+)?'
                   r"(fn|struct|enum|const|type|use|mod)\s+(\w+)")
 UP_TO = {"use": ";", "const": ";", "type": ";"}     # others end with a block, too
+METHODS = re.compile(r"impl\b(?:<[^>]*>)?\s+(?:([^{]*?)\s+for\s+)?(\w+)")
+METHOD = re.compile(r"\bfn (\w+)")
+DERIVE = re.compile(r"#\[derive\(([^)]*)\)\]")
+DERIVED = {"Default": "default"}    # what a derive makes that the source calls
 WORD = re.compile(r"\b[A-Za-z_]\w*")
+CLOSURE = re.compile(r"[(,=]\s*(?:move\s+)?\|")
 
 
 class Unread(Exception):
@@ -75,6 +80,10 @@ def without_contracts(text):
     return TACTIC.sub(lambda found: blank(found[0]), "".join([*kept, text[at:]]))
 
 
+def has_closure(text):
+    return bool(CLOSURE.search(code_of(text)))
+
+
 # ---- items
 
 @dataclass(eq=False)
@@ -84,10 +93,22 @@ class Item:
     begins: int         # where in the file
     head: str           # of a function what stands before its body; else all of it
     body: str = ""
+    of: str = ""        # of methods, which are one item together: what the compiler calls their type
 
     @property
     def text(self):
         return self.head + self.body
+
+    @property
+    def functions(self):
+        """The names of the functions that it makes: itself, or what it derives."""
+        if self.kind == "fn":
+            return [self.name]
+        if self.kind == "impl":
+            return [f"{self.of}::{method}" for method in METHOD.findall(code_of(self.head))]
+        derived = {word for found in DERIVE.findall(self.head) for word in words(found)}
+        return [f"{self.name}{trait}::{method}" for trait, method in DERIVED.items()
+                if trait in derived]
 
 
 def items(text):
@@ -100,6 +121,11 @@ def items(text):
             at += len(code[at:]) - len(code[at:].lstrip())
             if at == len(code):
                 return found
+        if methods := METHODS.match(text, at):
+            at = end(code, at, "}")
+            of = methods[2] + "".join(WORD.findall(methods[1] or ""))
+            found.append(Item("impl", methods[2], begins, text[begins:at], of=of))
+            continue
         item = ITEM.match(text, at)
         if not item:
             raise Unread(f"no plain item: {text[at:at + 40]!r}")
@@ -234,8 +260,8 @@ class Source:
     def read(self, file):
         self.files.append(file)
         for item in file.items:
-            if item.kind == "fn":
-                name = "::".join([file.crate, *file.module, item.name])
+            for made in item.functions:
+                name = "::".join([file.crate, *file.module, made])
                 if name in self.functions:
                     raise Unread(f"{name} is there twice")
                 self.functions[name] = file, item
@@ -287,7 +313,8 @@ class Source:
             own = {file.stem for file in files}
             begins = next(file for file in files if file.stem in ROOTS)
             text = with_modules(begins, files)
-            texts.append(f"pub mod {crate} {{\n{renamed(text, sorted(set(found) - own), path)}\n}}\n")
+            said = renamed(text, sorted(set(found) - own), path, f"{path}::{crate}")
+            texts.append(f"pub mod {crate} {{\n{said}\n}}\n")
         return "".join(texts)
 
 
@@ -304,11 +331,12 @@ def with_modules(file, files):
 EXPORT = r"#\[unsafe\(no_mangle\)\]|\bextern\s+(?=fn\b)"
 
 
-def renamed(text, crates, path):
-    """A text in which the names of these crates stand below a path, and that exports
-    nothing to C."""
-    said, at, names = [], 0, "|".join(crates) or "(?!)"
+def renamed(text, crates, path, itself):
+    """A text in which the names of these crates stand below a path, its own crate is the
+    module of that name, and that exports nothing to C."""
+    said, at, names = [], 0, "|".join(["crate", *crates])
     for found in re.finditer(rf"{EXPORT}|(?<![\w:])({names})(?=::)", code_of(text)):
-        said += [text[at:found.start()], f"{path}::{found[1]}" if found[1] else ""]
+        stands = itself if found[1] == "crate" else f"{path}::{found[1]}"
+        said += [text[at:found.start()], stands if found[1] else ""]
         at = found.end()
     return "".join([*said, text[at:]])

@@ -48,8 +48,8 @@ class Source(unittest.TestCase):
     def test_the_search_is_followed(self):
         self.assertLessEqual({"sums::of_block", "sums::built_in::gather_card", "decode::no_marks",
                               "decode::over_cards", "decode::beside_card",
-                              "decode::equations::with_two", "change::apply",
-                              "block::copy_block", "window::add", "core::slice::edits::slice+T::copy_from_slice<u8>",
+                              "decode::equations::Equations::with_two", "change::apply",
+                              "block::copy_sixteen", "window::add", "core::slice::edits::slice+T::copy_from_slice<u8>",
                               *TABLES}, self.followed)
 
     def test_other_calls_are_not(self):
@@ -75,7 +75,7 @@ class Run(InFolder):
 
     def test_list(self):
         lines = self.run_it("--list").stdout.splitlines()
-        self.assertIn("16 bytes at most: block::copy_block", lines)
+        self.assertIn("16 bytes at most: block::copy_sixteen", lines)
         self.assertIn(" 0 bytes at most: code::labels", lines)
         self.assertRegex(lines[-1], f"^audit/buffers: {len(lines) - 1} functions")
 

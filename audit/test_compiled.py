@@ -80,7 +80,7 @@ class Kept(InFolder):
 
     def test_at_first_all_are_printed(self):
         found, asked = self.found()
-        self.assertEqual(asked, [[]])
+        self.assertEqual(asked, [[], []])   # the other for the closures of marks
         self.assertGreater(len(found), compiled.FEW)
         self.assertEqual(found["block::read"], "code of block::read")
 
@@ -119,11 +119,11 @@ class Kept(InFolder):
     def test_another_kit(self):
         self.found()
         (self.crates / "KIT-ID").write_text("other")
-        self.assertEqual(self.found()[1], [[]])
+        self.assertEqual(self.found()[1], [[], []])
 
     def test_source_that_is_not_plain(self):
         self.found()
-        replaced(self.crates / "block/src/lib.rt", None, "\nimpl S {}\n")
+        replaced(self.crates / "block/src/lib.rt", None, "\ntrait T {}\n")
         for _ in range(2):
             self.assertEqual(self.found(["a::b"]), ({"a::b": "code of a::b"}, [[]]))
 

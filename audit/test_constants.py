@@ -60,7 +60,7 @@ PLANTS = {
         ("decode::no_marks: an array of 2: 1, 152" + UNNAMED,)),
     "local array": Plant(
         [before("block", plants.COPY, "        let steps = [1u8, 9, 17];\n")],
-        ("block::copy_block: an array of 3: 1, 9, 17" + UNNAMED,)),
+        ("block::copy_sixteen: an array of 3: 1, 9, 17" + UNNAMED,)),
     "array as an argument": Plant(
         [behind("bank", "\nfn first(t: [u8; 3]) -> u8 {\n    t[0]\n}\n"),
          before("bank", plants.PATROL, "    first([3, 1, 2]);\n")],
@@ -81,15 +81,14 @@ PLANTS = {
         [behind("rounding", TEN)],
         ("rounding::ten_to: a match with 3 results: 1, 10, 100" + UNNAMED,)),
     "fill and words": Plant(
-        [before("lines", "    text::number_line(b\"blocks \"",
+        [before("lines", "    text.number_line(b\"blocks \"",
                 "    let empty = [255u8; 64];\n"
-                "    let at = text::put(b\"of \", out, at);\n")],
+                "    text.put(b\"of \");\n")],
         ()),
     "tables that the printing program leans on": Plant(
-        [("sheet", "lib", "power((k % 9) as u16 + 17 * (k / 9) as u16)",
-          "code::labels()[(k % 45) as usize]"),
-         ("sheet", "lib", "        Table::Logs => log(k),\n",
-          "        Table::Logs => field::invert(k),\n")],
+        [("sheet", "lib", "power(u16::from(p % 9) + 17 * u16::from(p / 9))",
+          "code::labels()[(p % 45) as usize]"),
+         ("sheet", "lib", "1, 255, log);", "1, 255, |a| field::invert(a));")],
         ("tables::main: it can reach code::labels, which has a constant table",
          "tables::main: it can reach field::table::inverses_from, which has ")),
     "match on an enum": Plant([behind("reading", KIND)], ()),

@@ -9,7 +9,7 @@ sys.dont_write_bytecode = True
 
 from planted import InFolder, planted
 from plants import ARRAYS, before, behind
-from source import (ROOT, Source, Unread, code_of, end, has_code, imports, items, leaves, listed,
+from source import (ROOT, Source, Unread, code_of, end, has_closure, has_code, imports, items, leaves, listed,
                     needs, renamed, root, told, with_modules, without_contracts)
 
 CONTRACTS = '''// No requires { here }.
@@ -98,10 +98,26 @@ class Items(unittest.TestCase):
             self.assertTrue(text[item.begins:].startswith(item.text))
 
     def test_what_is_not_plain(self):
-        for text in ("impl S { fn f() {} }", "mod a { fn f() {} }", "fn broken( {", "let x = 1;",
+        for text in ("impl S { fn f( }", "mod a { fn f() {} }", "fn broken( {", "let x = 1;",
                      "trait T {}", "fn f() {} }"):
             with self.subTest(text), self.assertRaises(Unread):
                 items(text)
+
+    def test_methods(self):
+        text = ("impl<'a> S<'a> {\n    pub fn f(self) {}\n\n    // fn g\n    fn h(self) {}\n}\n"
+                "impl From<R> for S<'_> { fn from(r: R) -> S { S(r) } }\nfn i() {}\n")
+        found = items(text)
+        self.assertEqual([item.functions for item in found],
+                         [["S::f", "S::h"], ["SFromR::from"], ["i"]])
+        self.assertEqual([item.name for item in found], ["S", "S", "i"])
+        for item in found:
+            self.assertTrue(text[item.begins:].startswith(item.text))
+
+    def test_closures(self):
+        for text in ("f(|x| x)", "f(a, || b)", "let f = move |x| x;"):
+            self.assertTrue(has_closure(text), text)
+        for text in ("a || b", "x |= y", "match x { 1 | 2 => 3 }", "// f(|x| x)"):
+            self.assertFalse(has_closure(text), text)
 
     def test_imports(self):
         self.assertEqual(leaves("a::{b, c::{d as e, self}, f}"),
@@ -162,16 +178,15 @@ class Depends(InFolder):
 
     def test_contract(self):
         self.assertEqual(self.changed(
-            ("block", "lib", "    ensures { result ≡ read_cause n m o }\n", "")), set())
+            ("block", "lib", "    ensures { cause_number result ≡ lengths_cause n o }\n", "")), set())
 
     def test_new_item(self):
         self.assertEqual(self.changed(behind("block", "\nfn new() {}\n")), {"block::new"})
 
     def test_head(self):
         found = self.changed(("block", "lib", "fn was_corrected(r:", "fn was_corrected(x:"),
-                             ("block", "lib", "    match r {\n", "    match x {\n"))
-        self.assertEqual(found, {"block::was_corrected", "block::correct", "block::read_noted",
-                                 "block::mend", "block::record_part"})
+                             ("block", "lib", "    r.is_ok()\n", "    x.is_ok()\n"))
+        self.assertEqual(found, {"block::was_corrected", "block::record_part"})
 
     def test_constant(self):
         self.assertEqual(self.changed(("code", "lib", "const LABELS: [u8; 45] = [",
@@ -182,11 +197,11 @@ class Depends(InFolder):
                               "    pub squared: u8,\n    pub more: u8,\n"))
         self.assertLessEqual({"sums::of_block", "decode::decode", "decode::no_marks",
                               "block::read", "store::write"}, found)
-        self.assertFalse({"field::mul", "marks::mark", "text::put"} & found)
+        self.assertFalse({"field::mul", "marks::mark", "text::Text::put"} & found)
 
     def test_import(self):
-        found = self.changed(("capi", "encode", "use answer::Outcome;",
-                              "use answer::Outcome as Other;"))
+        found = self.changed(("capi", "encode", "use answer::{Refusal, Totals};",
+                              "use answer::{Refusal as Other, Totals};"))
         self.assertIn("capi::encode::of_outcome", found)
         self.assertFalse({"capi::livomashen_report", "capi::encode::of_totals"} & found)
 
@@ -195,12 +210,11 @@ class Depends(InFolder):
         self.assertNotEqual(source.key("code::labels", "one"), source.key("code::labels", "other"))
 
     def test_pruned(self):
-        found = self.whole().pruned(["block::copy_block"])
+        found = self.whole().pruned(["block::copy_sixteen"])
         self.assertEqual([list(files) for files in found.values()], [[Path("lib.rt")]])
         text = found["block"][Path("lib.rt")]
-        self.assertIn("fn copy_block(from: &[u8], to: &mut [u8])", text)
+        self.assertIn("fn copy_sixteen(from: &[u8; 45], to: &mut [u8; 45], start: usize)", text)
         self.assertIn("piece.copy_from_slice", text)
-        self.assertIn("fn next_start(at: usize) -> usize", text)
         self.assertEqual(text.count("{ loop {} }"), text.count("fn ") - 1)
         self.assertNotIn("four_unclean", text)
         whole = (ROOT / "crates" / "block" / "src" / "lib.rt").read_text().split("\n")
@@ -212,7 +226,7 @@ class Depends(InFolder):
         text = self.whole().module(["capi::encode::of_outcome", "sums::is_zero"], "crate::at")
         said = told(text)
         self.assertRegex(said, r"pub mod answer \{.*\} pub mod sums \{.*\} pub mod capi \{.*\}$")
-        self.assertRegex(said, r"mod encode \{ ?use crate::at::answer::Outcome; .*fn of_outcome\(")
+        self.assertRegex(said, r"mod encode \{ ?use crate::at::answer::Refusal; .*fn of_outcome\(")
         self.assertNotIn("use answer::", said)
 
     def whole(self):
@@ -228,12 +242,15 @@ class Modules(unittest.TestCase):
                          "pub mod a {mod b {mod c {fn g() {}}}} fn f() {}")
 
     def test_names_of_crates(self):
-        self.assertEqual(renamed('a::b(a, c::a::d, ab::c, "a::b", e::f) // a::b', ["a", "e"], "z"),
+        self.assertEqual(renamed('a::b(a, c::a::d, ab::c, "a::b", e::f) // a::b',
+                                 ["a", "e"], "z", "z::y"),
                          'z::a::b(a, c::a::d, ab::c, "a::b", z::e::f) // a::b')
-        self.assertEqual(renamed("a::b", [], "z"), "a::b")
+        self.assertEqual(renamed("a::b", [], "z", "z::y"), "a::b")
+        self.assertEqual(renamed("use crate::a::b; crate::c(a::crate_d)", ["a"], "z", "z::y"),
+                         "use z::y::a::b; z::y::c(z::a::crate_d)")
 
     def test_exports(self):
-        self.assertEqual(renamed('#[unsafe(no_mangle)]\npub extern "C" fn f()', [], "z"),
+        self.assertEqual(renamed('#[unsafe(no_mangle)]\npub extern "C" fn f()', [], "z", "z::y"),
                          "\npub fn f()")
 
 

@@ -1,16 +1,17 @@
 """Which arrays are words of the output.
 
 A byte string is lowered as an array of numbers like any other, so that what is done
-with it tells: it is lent to `text::put`, which is proved to put it into the output as
-it is, or to a function that only hands it on there; and nothing else.  Its bytes are
-characters and ends of lines, and none is a digit: those would be numbers, written out.
+with it tells: it is lent to `text::Text::put`, which is proved to put it into the
+output as it is, or to a function that only hands it on there; and nothing else.  Its
+bytes are characters and ends of lines, and none is a digit: those would be numbers,
+written out.
 """
 
 from lowered import SLICE, called
 from terms import items, parts
 from tables import place
 
-PUT = ("text::put", 1)      # what puts words into the output, and as which parameter
+PUT = ("text::Text::put", 2)    # what puts words into the output, and as which parameter
 DIGITS = range(ord("0"), ord("9") + 1)
 
 

@@ -4,6 +4,9 @@
 --   above, first_holds         in a list of numbers from n up, n is given where its cause holds
 --   none_holds                 where no number is given, no cause holds
 --   rising, or_else, lowest_append   the causes of one part of a call, and then those of the next
+--   refuses_here, refuses_later   the number of a check that tests cause by cause: at this cause, or at one after it
+--   handed_on, refusal_said    a check that hands on what another gave
+--   number_given, by_check, by_handed     a refusal has a number; a call that says what a check gave
 --   by_refused, by_done        a call that is refused, or is not; by_accepted: what one says that is not; by_map: both ways carried over
 --   Agreed, by_agree, by_same  two outcomes of one call
 use Prim.Native.Nat.{ℕ, zero, suc, ◌≤◌}
@@ -15,7 +18,13 @@ use native.Mathlib.Omega.{arith}
 use lib.Dec.{T, ltb, leb}
 use borrow.Author.Tests.{ltb-true, ltb-false, leb-true, le-ltb}
 use Rattle.base.specs.Base.{if}
-use Rattle.answer.specs.Answer.{Answer, refused, By}
+use Rattle.std.specs.declared.result.Result.{Result}
+use Rattle.std.specs.Prelude.{Ok, Err, IsErrAnd}
+use Rattle.answer.specs.Answer.{Answer, refused, By, refusal_number, outcome_answer, cause_number}
+use Rattle.answer.specs.declared.Refusal.{Refusal}
+use Rattle.answer.specs.declared.Refusal.TheVariants.{BlockLength, OutputLength, RecordLength, BankLength, BlockNumber, MarkRange, EqualMarks}
+use Rattle.answer.specs.declared.Refusal.TheVariants.{TooManyMarks, NotMarked, NoLawfulBlock, RegisterAddress, ReadOnlyRegister, UnknownCommand}
+use Rattle.answer.specs.declared.Refusal.TheVariants.{SlipCutOff, NoSuchSlip, NoRoom}
 use Rattle.answer.specs.Cause.{Cause, cause, lesser, lowest}
 
 -- ---- the lowest number is the least of those that hold
@@ -169,10 +178,53 @@ pub else_first : (n m : ℕ) → n ≢ 0 → or_else n m ≡ n
 else_first zero m h = absurd (h refl)
 else_first (suc n) m h = refl
 
+-- ---- a check that tests cause by cause
+pub refuses_here : (n : ℕ) (t : Bool) (cs : List Cause) → t ≡ true → T (above n cs) → n ≡ lowest (cause n t ∷ cs)
+refuses_here n t cs e h = sym (ap (λ (u : Bool). lowest (cause n u ∷ cs)) e ∙ first_holds n cs h)
+
+pub refuses_later : (n k : ℕ) (t : Bool) (cs : List Cause) → t ≡ false → k ≡ lowest cs → k ≡ lowest (cause n t ∷ cs)
+refuses_later n k t cs e q = q ∙ sym (ap (λ (u : Bool). lowest (cause n u ∷ cs)) e)
+
+pub number_given : (r : Refusal) → refusal_number r ≢ 0
+number_given BlockLength e = omega (arith, e)
+number_given OutputLength e = omega (arith, e)
+number_given RecordLength e = omega (arith, e)
+number_given BankLength e = omega (arith, e)
+number_given BlockNumber e = omega (arith, e)
+number_given MarkRange e = omega (arith, e)
+number_given EqualMarks e = omega (arith, e)
+number_given TooManyMarks e = omega (arith, e)
+number_given NotMarked e = omega (arith, e)
+number_given NoLawfulBlock e = omega (arith, e)
+number_given RegisterAddress e = omega (arith, e)
+number_given ReadOnlyRegister e = omega (arith, e)
+number_given UnknownCommand e = omega (arith, e)
+number_given SlipCutOff e = omega (arith, e)
+number_given NoSuchSlip e = omega (arith, e)
+number_given NoRoom e = omega (arith, e)
+
 -- ---- a call by its cause
 pub by_refused : (n c : ℕ) (unchanged did : Type 0) → n ≡ c → c ≢ 0 → unchanged → By n (refused c) unchanged did
 by_refused zero c unchanged did e h u = absurd (h (sym e))
 by_refused (suc n) c unchanged did e h u = (ap refused (sym e), u)
+
+-- a check that hands on what another gave
+pub handed_on : (r : Result (Unit {0}) Refusal) (e : Refusal) → IsErrAnd r (λ (x : Refusal). x ≡ e) → cause_number r ≡ refusal_number e
+handed_on (Ok u) e h = absurd h
+handed_on (Err x) e h = ap refusal_number h
+
+pub refusal_said : (r : Result (Unit {0}) Refusal) (e : Refusal) → IsErrAnd r (λ (x : Refusal). x ≡ e) → outcome_answer r ≡ refused (refusal_number e)
+refusal_said (Ok u) e h = absurd h
+refusal_said (Err x) e h = ap (λ (y : Refusal). refused (refusal_number y)) h
+
+-- it says what a check gave
+pub by_check : (r : Refusal) (n : ℕ) (unchanged did : Type 0) → refusal_number r ≡ n → unchanged → By n (refused (refusal_number r)) unchanged did
+by_check r n unchanged did e u = by_refused n (refusal_number r) unchanged did (sym e) (number_given r) u
+
+pub by_handed : (r : Result (Unit {0}) Refusal) (e : Refusal) (n : ℕ) (unchanged did : Type 0) → IsErrAnd r (λ (x : Refusal). x ≡ e)
+    → refusal_number e ≡ n → unchanged → By n (outcome_answer r) unchanged did
+by_handed (Ok v) e n unchanged did h q u = absurd h
+by_handed (Err x) e n unchanged did h q u = by_check x n unchanged did (ap refusal_number h ∙ q) u
 
 pub by_done : (n : ℕ) (a : Answer) (unchanged did : Type 0) → n ≡ 0 → did → By n a unchanged did
 by_done zero a unchanged did e d = d

@@ -13,8 +13,8 @@ use mathlib.Core.Bool.{Bool, true, ◌&&◌, not}
 use mathlib.Core.List.{List, [], ◌∷◌}
 use lib.Dec.{eqb}
 use borrow.Author.Tests.{eqb-false, not-true}
+use Rattle.std.proofs.lemmas.Bool.{and_parts}
 use Rattle.base.specs.Base.{In}
-use Rattle.base.proofs.Tests.{and_true}
 use Rattle.answer.proofs.Causes.{or_else}
 
 -- a number, where it is given, and where it is not and the next is looked at
@@ -39,12 +39,12 @@ no_zero (row n H P rs) = not (eqb n 0) && no_zero rs
 
 pub first_followed : (rs ss : Rows) (k l : ℕ) → no_zero rs ≡ true → First rs k → First ss l → First (followed rs ss) (or_else k l)
 first_followed end ss k l z nothing g = g
-first_followed (row n H P rs) ss k l z (here h) g = at n (eqb-false n 0 (not-true _ (and_true _ _ z).0))
+first_followed (row n H P rs) ss k l z (here h) g = at n (eqb-false n 0 (not-true _ (and_parts _ _ z).0))
   where
     at : (n : ℕ) → n ≢ 0 → First (row n H P (followed rs ss)) (or_else n l)
     at zero e = absurd (e refl)
     at (suc n) e = here h
-first_followed (row n H P rs) ss k l z (later p f) g = later p (first_followed rs ss k l (and_true _ _ z).1 f g)
+first_followed (row n H P rs) ss k l z (later p f) g = later p (first_followed rs ss k l (and_parts _ _ z).1 f g)
 
 -- ---- each number exactly when
 -- n is the number of none of them
@@ -63,14 +63,14 @@ Exact Q (row n H P rs) k = ((k ≡ n) ↔ Q H) × Exact (λ X. Q (P × X)) rs k
 
 not_in_rows : (n : ℕ) (rs : Rows) → no_row n rs ≡ true → (k : ℕ) → First rs k → k ≢ n
 not_in_rows n end t k nothing e = eqb-false n 0 (not-true _ t) (sym e)
-not_in_rows n (row m H P rs) t k (here h) e = eqb-false n m (not-true _ (and_true _ _ t).0) (sym e)
-not_in_rows n (row m H P rs) t k (later p f) e = not_in_rows n rs (and_true _ _ t).1 k f e
+not_in_rows n (row m H P rs) t k (here h) e = eqb-false n m (not-true _ (and_parts _ _ t).0) (sym e)
+not_in_rows n (row m H P rs) t k (later p f) e = not_in_rows n rs (and_parts _ _ t).1 k f e
 
 -- where the rows before have not been passed
 never : (Q : Type 0 → Type 0) (n : ℕ) (rs : Rows) → no_row n rs ≡ true → ((X : Type 0) → Q X → ⊥) → Exact Q rs n
 never Q n end t none = tt
 never Q n (row m H P rs) t none =
-    (((λ e. absurd (eqb-false n m (not-true _ (and_true _ _ t).0) e)), λ q. absurd (none H q)), never (λ X. Q (P × X)) n rs (and_true _ _ t).1 (λ X q. none (P × X) q))
+    (((λ e. absurd (eqb-false n m (not-true _ (and_parts _ _ t).0) e)), λ q. absurd (none H q)), never (λ X. Q (P × X)) n rs (and_parts _ _ t).1 (λ X q. none (P × X) q))
 
 under : (Q : Type 0 → Type 0) → ((X : Type 0) → X → Q X) → ((X : Type 0) → Q X → X) → (rs : Rows) (k : ℕ) → Apart rs → First rs k → Exact Q rs k
 under Q on off end k a f = tt

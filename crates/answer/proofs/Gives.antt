@@ -14,8 +14,8 @@ use mathlib.Core.List.{List, [], ◌∷◌, ◌++◌}
 use native.Mathlib.Omega.{arith}
 use borrow.Author.Tests.{leb-true, eqb-false, not-true}
 use lib.Dec.{eqb, leb}
+use Rattle.std.proofs.lemmas.Bool.{and_parts}
 use Rattle.base.specs.Base.{In}
-use Rattle.base.proofs.Tests.{and_true}
 use Rattle.answer.specs.Answer.{Answer, done, clean, in_chips, in_card, counted, refused, refused_card, By}
 use Rattle.answer.specs.Cause.{Cause, cause, lowest}
 use Rattle.answer.proofs.Causes.{Holds, Positive, lowest_is, none_holds}
@@ -81,8 +81,8 @@ numbered (n ∷ ns) = ((leb 1 n && leb n 99) && not (eqb n 11)) && numbered ns
 pub number_of : (ns : List ℕ) → numbered ns ≡ true → (n : ℕ) → In n ns → (1 ≤ n) × (n ≤ 99) × (n ≢ 11)
 number_of [] t n h = absurd h
 number_of (m ∷ ns) t n (inl e) =
-    let r = (and_true ((leb 1 m && leb m 99) && not (eqb m 11)) (numbered ns) t).0 in
-    let s = and_true (leb 1 m && leb m 99) (not (eqb m 11)) r in
-    let u = and_true (leb 1 m) (leb m 99) s.0 in
+    let r = (and_parts ((leb 1 m && leb m 99) && not (eqb m 11)) (numbered ns) t).0 in
+    let s = and_parts (leb 1 m && leb m 99) (not (eqb m 11)) r in
+    let u = and_parts (leb 1 m) (leb m 99) s.0 in
     (omega (arith, e, leb-true 1 m u.0), omega (arith, e, leb-true m 99 u.1), λ z. eqb-false m 11 (not-true _ s.1) (sym e ∙ z))
-number_of (m ∷ ns) t n (inr h) = number_of ns (and_true ((leb 1 m && leb m 99) && not (eqb m 11)) (numbered ns) t).1 n h
+number_of (m ∷ ns) t n (inr h) = number_of ns (and_parts ((leb 1 m && leb m 99) && not (eqb m 11)) (numbered ns) t).1 n h

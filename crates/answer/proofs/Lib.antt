@@ -1,3 +1,5 @@
 pub mod Causes
 pub mod Gives
 pub mod Exactly
+pub mod Said
+pub mod Tied

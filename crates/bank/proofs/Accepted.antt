@@ -8,7 +8,7 @@ use mathlib.Core.Bool.{Bool}
 use mathlib.Core.List.{[], ◌∷◌}
 use native.Mathlib.Omega.{arith}
 use borrow.Author.Tests.{leb-false}
-use Rattle.base.proofs.Tests.{same}
+use Rattle.std.proofs.lemmas.Bool.{cases_eq}
 use Rattle.answer.specs.Cause.{cause, lowest}
 use Rattle.answer.proofs.Causes.{none_holds, or_else}
 use Rattle.marks.specs.Marks.{LawfulMarks, marks_cause}
@@ -52,14 +52,14 @@ module _ (n k : ℕ) (m : Marks) where
   patrolling f l w = patrol_is n k m ∙ right (lowest (place_causes n k)) (marks_cause m) (placing n k f l) (lawful_cause m w)
 
   got : (o : ℕ) → get_cause n k m o ≡ 0 → FitBank n × (k < n / 45) × LawfulMarks m × (o ≡ 45)
-  got o e = pick (same o 45)
+  got o e = pick (cases_eq o 45)
     where
       pick : (o ≡ 45) ⊎ (o ≢ 45) → FitBank n × (k < n / 45) × LawfulMarks m × (o ≡ 45)
       pick (inl q) = let h = patrolled (sym (get_is n k m o q) ∙ e) in (h.0, h.1, h.2, q)
       pick (inr q) = absurd (omega (arith, get_2 n k m o q, e))
 
 put_accepted : (n k r : ℕ) → put_cause n k r ≡ 0 → FitBank n × (k < n / 45) × (r ≡ 34)
-put_accepted n k r e = pick (same r 34)
+put_accepted n k r e = pick (cases_eq r 34)
   where
     pick : (r ≡ 34) ⊎ (r ≢ 34) → FitBank n × (k < n / 45) × (r ≡ 34)
     pick (inl q) = let h = placed n k (sym (put_is n k r q) ∙ e) in (h.0, h.1, q)

@@ -14,7 +14,7 @@ use native.Mathlib.Omega.{arith}
 use lib.Dec.{eqb, ltb}
 use lib.ListN.{length}
 use borrow.Author.Tests.{eq-eqb, ne_eqb, le-leb, lt-leb, le-ltb, lt-ltb, eqb-true, eqb-false, leb-false, ltb-false, not-false}
-use Rattle.base.proofs.Tests.{or_false}
+use Rattle.std.proofs.lemmas.Bool.{or_parts}
 use Rattle.answer.specs.Cause.{cause, lowest}
 use Rattle.answer.proofs.Causes.{first_holds, none_holds, or_else, lowest_append, else_first}
 use Rattle.marks.specs.Marks.{marks_causes, marks_cause}
@@ -38,8 +38,8 @@ size_right n z e h = rw (ne_eqb n 0 z, eq-eqb (n % 45) 0 e, le-ltb 46080 n h) re
 pub sized : (n : ℕ) → lowest (size_causes n) ≡ 0 → (n % 45 ≡ 0) × (n ≤ 46080) × (n ≢ 0)
 sized n e =
     let h = (none_holds 3 (bad_bank n) [] e).0 in
-    let w = or_false (eqb n 0) (not (eqb (n % 45) 0) || ltb 46080 n) h in
-    let v = or_false (not (eqb (n % 45) 0)) (ltb 46080 n) w.1 in
+    let w = or_parts (eqb n 0) (not (eqb (n % 45) 0) || ltb 46080 n) h in
+    let v = or_parts (not (eqb (n % 45) 0)) (ltb 46080 n) w.1 in
     (eqb-true (n % 45) 0 (not-false (eqb (n % 45) 0) v.0), ltb-false 46080 n v.1, eqb-false n 0 w.0)
 
 -- ---- a block's place

@@ -18,9 +18,13 @@ use lib.ListN.{length, take, drop, replicate, get_or, set, take-append-drop, len
 use lib.Seq.{drop-drop, take_at, drop_at, length-take-le, get_or-set_same, get_or-set_other}
 use borrow.Author.Tests.{eq-eqb, ne_eqb}
 use Rattle.base.specs.Base.{tally}
-use Rattle.base.proofs.Tests.{same}
+use Rattle.std.proofs.lemmas.Bool.{cases_eq}
 use Rattle.base.proofs.Tally.{tally_ext, count_some, count_same, at_most}
-use Rattle.answer.specs.Answer.{Answer, done, clean, in_chips, in_card, counted, refused, refused_card, number, By}
+use Rattle.answer.specs.Answer.{Answer, done, clean, in_chips, in_card, counted, refused, refused_card, number, By, refusal_number}
+use Rattle.answer.specs.declared.Refusal.{Refusal}
+use Rattle.answer.specs.declared.Totals.{Totals}
+use Rattle.std.specs.declared.result.Result.{Result}
+use Rattle.std.specs.Prelude.{Ok, Err, IsErrAnd}
 use Rattle.answer.proofs.Causes.{by_refused, by_done, by_accepted, by_map}
 use Rattle.marks.specs.Marks.{marks_cause}
 use Rattle.marks.specs.declared.Marks.{Marks}
@@ -32,9 +36,9 @@ use Rattle.window.specs.Window.{added}
 use Rattle.window.proofs.Runs.{added_none}
 use Rattle.block.specs.Read.{read_cause, mend_cause, changed_at, NotedDone, MendDone, LookDone}
 use Rattle.block.proofs.Causes.{mend_marks}
-use Rattle.bank.specs.Calls.{blocks, block, with_block, clear_cause, put_cause, get_cause, patrol_cause, report_cause}
+use Rattle.bank.specs.Calls.{blocks, block, with_block, clear_cause, put_cause, get_cause, patrol_cause, report_cause, report_answer}
 use Rattle.bank.specs.Calls.{ClearDone, PutDone, GetDone, PatrolDone, ReportDone, class, how_many, CountsEach}
-use Rattle.bank.specs.Count.{CountedBlocks}
+use Rattle.bank.specs.Count.{five, CountedBlocks}
 use Rattle.bank.proofs.Each.{extended, extended_at, extended_below, extended_reads}
 
 -- ---- block k, as the code takes it: from 45 · k up to 45 · k + 45
@@ -80,6 +84,11 @@ patrol_refused bank k m w c e h = record { mended = by_refused _ c (bank ≡ ban
 
 pub report_refused : (bank : List ℕ) (m : Marks) (c : ℕ) → report_cause (length bank) m ≡ c → c ≢ 0 → ReportDone bank m (refused c) bank
 report_refused bank m c e h = record { kept = refl; answer = by_refused _ c (Unit {0}) _ e h tt }
+
+-- what a check refuses, a report hands on
+pub report_said : (r : Result Totals Refusal) (e : Refusal) → IsErrAnd r (λ (x : Refusal). x ≡ e) → report_answer r ≡ refused (refusal_number e)
+report_said (Ok t) e h = absurd h
+report_said (Err x) e h = ap (λ (y : Refusal). refused (refusal_number y)) h
 
 -- ---- done
 pub clear_done : (bank bank' : List ℕ) → clear_cause (length bank) ≡ 0 → bank' ≡ replicate (length bank) 0 → ClearDone bank done bank'
@@ -137,14 +146,14 @@ patrol_unread bank k m v a bank' w' w n = go (patrol_cause (length bank) k m) w.
     go (suc c) (e, u) = u
 
 -- ---- report
-pub report_done : (bank : List ℕ) (m : Marks) (t : List ℕ) (a : Answer) → report_cause (length bank) m ≡ 0 → CountedBlocks bank m (blocks bank) t
-    → a ≡ counted (get_or t 0 0) (get_or t 1 0) (get_or t 2 0) (get_or t 3 0) (get_or t 4 0) → ReportDone bank m a bank
-report_done bank m t a e w q = record {
+pub report_done : (bank : List ℕ) (m : Marks) (t : Totals) → report_cause (length bank) m ≡ 0 → CountedBlocks bank m (blocks bank) (five t)
+    → ReportDone bank m (report_answer (Ok t)) bank
+report_done bank m t e w = record {
   kept = refl;
-  answer = by_done _ a (Unit {0}) (CountsEach (block bank) (blocks bank) m a) e (
+  answer = by_done _ (report_answer (Ok t)) (Unit {0}) (CountsEach (block bank) (blocks bank) m (report_answer (Ok t))) e (
     w.answers,
     w.reads,
-    q ∙ simp (
+    simp (
       w.each 0 (omega arith),
       w.each 1 (omega arith),
       w.each 2 (omega arith),
@@ -183,7 +192,7 @@ module _ (bank : List ℕ) (m : Marks) (n : ℕ) (t : List ℕ) (w : CountedBloc
     answers = extended w.answers n a;
     reads = extended_reads (block bank) m w.answers n a w.reads (x, r);
     five = ap length q ∙ length-set t i (get_or t i 0 + 1) ∙ w.five;
-    each = λ j h. each_total j (same j i) h;
+    each = λ j h. each_total j (cases_eq j i) h;
   }
     where
       -- below n they are counted as before

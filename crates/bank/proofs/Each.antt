@@ -13,7 +13,7 @@ use native.Mathlib.Omega.{arith}
 use lib.Dec.{eqb}
 use borrow.Author.Tests.{eq-eqb, ne_eqb}
 use Rattle.base.specs.Base.{if}
-use Rattle.base.proofs.Tests.{same}
+use Rattle.std.proofs.lemmas.Bool.{cases_eq}
 use Rattle.base.proofs.Tally.{tally_ext}
 use Rattle.answer.specs.Answer.{Answer, By}
 use Rattle.marks.specs.declared.Marks.{Marks}
@@ -34,7 +34,7 @@ extended_below f n a k l = ap (λ (t : Bool). if t a (f k)) (ne_eqb k n (λ e. o
 
 module _ (b : ℕ → List ℕ) (m : Marks) (f : ℕ → Answer) (n : ℕ) (a : Answer) where
   pub extended_reads : EachReads b n m f → ((x : List ℕ) × ReadsUnder m (b n) [] a x) → EachReads b (n + 1) m (extended f n a)
-  extended_reads w r k h = each k (same k n) h
+  extended_reads w r k h = each k (cases_eq k n) h
     where
       each : (k : ℕ) → (k ≡ n) ⊎ (k ≢ n) → k < n + 1 → (x : List ℕ) × ReadsUnder m (b k) [] (extended f n a k) x
       each k (inl z) h = rw (z, extended_at f n a) r

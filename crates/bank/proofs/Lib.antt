@@ -2,7 +2,8 @@ pub mod Causes
 pub mod Accepted
 pub mod Each
 pub mod Done
-pub mod Clean
+pub mod Counted
 pub mod Tied
 pub mod Decided
 pub mod Gives
+pub mod Said

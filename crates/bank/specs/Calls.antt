@@ -8,7 +8,7 @@
 --   EachReads, totals    how each block reads, and how many read as each; CountsEach: an answer that counts them
 use Rattle.std.specs.Prelude.{ℕ, ◌+◌, ◌*◌, ◌/◌, ◌%◌, ◌<◌, ◌≡◌, Bool, ◌||◌, not, List, [], ◌∷◌, ◌++◌, eqb, leb, ltb, length, take, drop, replicate}
 use Rattle.base.specs.Base.{tally}
-use Rattle.answer.specs.Answer.{Answer, done, clean, in_chips, in_card, counted, refused, refused_card, By}
+use Rattle.answer.specs.Answer.{Answer, done, clean, in_chips, in_card, counted, refused, refused_card, By, refusal_number}
 use Rattle.answer.specs.Cause.{Cause, cause, lowest}
 use Rattle.marks.specs.Marks.{marks_causes}
 use Rattle.marks.specs.declared.Marks.{Marks}
@@ -17,8 +17,10 @@ use Rattle.code.specs.Labels.{built_in}
 use Rattle.reading.specs.Reading.{ReadsUnder}
 use Rattle.window.specs.Window.{added}
 use Rattle.block.specs.Read.{changed_at}
-use Rattle.bank.specs.declared.Reported.{Reported}
-use Rattle.bank.specs.declared.Reported.TheVariants.{Counted, Refused}
+use Rattle.std.specs.declared.result.Result.{Result}
+use Rattle.std.specs.Prelude.{Ok, Err}
+use Rattle.answer.specs.declared.Refusal.{Refusal}
+use Rattle.answer.specs.declared.Totals.{Totals}
 
 -- ---- blocks
 abbrev pub blocks : List ℕ → ℕ
@@ -115,7 +117,7 @@ pub record ReportDone (bank : List ℕ) (m : Marks) (a : Answer) (bank' : List �
   pub kept : bank' ≡ bank
   pub answer : By (report_cause (length bank) m) a (Unit {0}) (CountsEach (block bank) (blocks bank) m a)
 
--- the answer that a Reported stands for
-abbrev pub report_answer : Reported → Answer
-report_answer (Counted t) = counted t.clean t.chips t.card t.none t.several
-report_answer (Refused n) = refused n
+-- the answer that a report stands for
+abbrev pub report_answer : Result Totals Refusal → Answer
+report_answer (Ok t) = counted t.clean t.chips t.card t.none t.several
+report_answer (Err r) = refused (refusal_number r)

@@ -1,233 +1,158 @@
 // A bank of blocks in lent bytes: clear, put, get, patrol, and a report over it.
 #![tactic(auto)]
 
-ghost use Rattle.std.specs.Prelude.{◌≡◌, ◌+◌, ◌*◌, ◌/◌, ◌≤◌, ◌<◌, length, replicate};
-ghost use Rattle.answer.specs.Answer.{outcome_answer};
+ghost use Rattle.std.specs.Prelude.{◌≡◌, ◌+◌, ◌*◌, ◌/◌, ◌≤◌, ◌<◌, length, replicate, OnOk};
+ghost use Rattle.answer.specs.Answer.{outcome_answer, cause_number};
 ghost use Rattle.answer.specs.Cause.{lowest};
 ghost use Rattle.marks.specs.Marks.{marks_cause};
 ghost use Rattle.reading.specs.Reading.{reading_answer};
-ghost use Rattle.reading.specs.declared.Reading.TheVariants.{Corrected};
-ghost use Rattle.bank.specs.Calls.{blocks, size_causes, place_causes, ClearDone, PutDone, GetDone, PatrolDone, ReportDone, class, report_answer};
-ghost use Rattle.bank.specs.Count.{LeftFrom, ClassAt, CountedBlocks};
+ghost use Rattle.bank.specs.Calls.{blocks, size_causes, place_causes, ClearDone, PutDone, GetDone, PatrolDone, ReportDone, report_answer};
+ghost use Rattle.bank.specs.Count.{five, EachAtMost, CountsOne, CountsMore, CountedBlocks};
 
-// How many blocks read as each.
-#[derive(Clone, Copy)]
-pub struct Totals {
-    pub clean: u16,
-    pub chips: u16,
-    pub card: u16,
-    pub none: u16,
-    pub several: u16,
-}
+use answer::Refusal;
+use marks::Marks;
+use reading::{Fault, Kind, Reading};
 
-// The totals, or the number of the refusal.
-#[derive(Clone, Copy)]
-pub enum Reported {
-    Counted(Totals),
-    Refused(u8),
-}
+// What a report gives.
+pub use answer::Totals;
 
 // The length of the largest bank: 1,024 blocks.
 const LARGEST: usize = 46080;
 
-// 0, or the number that a bank's length gives: 0 bytes, no multiple of 45, or above 46,080.
-fn size_cause(n: usize) -> u8
-    ensures { result ≡ lowest (size_causes n) }
+// Whether a bank's length serves: 4 where it is 0 bytes, no multiple of 45, or above 46,080.
+fn check_size(n: usize) -> Result<(), Refusal>
+    ensures { cause_number result ≡ lowest (size_causes n) }
 {
-    if n == 0 {
-        return 4;
+    if n == 0 || n % 45 != 0 || n > LARGEST {
+        return Err(Refusal::BankLength);
     }
-    if n % 45 != 0 {
-        return 4;
-    }
-    if n > LARGEST {
-        return 4;
-    }
-    0
+    Ok(())
 }
 
-// 0, or the number that a bank's length or a block number gives.
-fn place_cause(n: usize, k: usize) -> u8
-    ensures { result ≡ lowest (place_causes n k) }
+// Whether a bank's length serves, and there is a block of that number: 4, 5. Then block k lies in the bank.
+fn check_place(n: usize, k: usize) -> Result<(), Refusal>
+    ensures cause { cause_number result ≡ lowest (place_causes n k) }
+    ensures room { OnOk result (45 * k + 45 ≤ n) }
 {
-    let cause = size_cause(n);
-    if cause != 0 {
-        return cause;
-    }
+    check_size(n)?;
     if k >= n / 45 {
-        return 5;
+        return Err(Refusal::BlockNumber);
     }
-    0
+    Ok(())
 }
 
+// A loop of its own: `fill` takes 16 bytes of stack more than `livomashen_clear` may.
 fn zero(bank: &mut [u8])
     ensures { bank.new ≡ replicate (length bank.old) 0 }
 {
-    let mut i: usize = 0;
-    while i < bank.len() {
-        bank[i] = 0;
-        i = i + 1;
+    for b in bank.iter_mut() {
+        *b = 0;
     }
 }
 
 // Makes every block 45 zeros.
-pub fn clear(bank: &mut [u8]) -> answer::Outcome
+pub fn clear(bank: &mut [u8]) -> Result<(), Refusal>
     ensures { ClearDone bank.old (outcome_answer result) bank.new }
 {
-    let cause = size_cause(bank.len());
-    if cause != 0 {
-        return answer::Outcome::Refused(cause);
-    }
+    check_size(bank.len())?;
     zero(bank);
-    answer::Outcome::Done
+    Ok(())
 }
 
 // Puts a record into block k.
-pub fn put(bank: &mut [u8], k: usize, rec: &[u8]) -> answer::Outcome
+pub fn put(bank: &mut [u8], k: usize, rec: &[u8]) -> Result<(), Refusal>
     ensures { PutDone bank.old k rec.now (outcome_answer result) bank.new rec.now }
 {
     if rec.len() != 34 {
-        return answer::Outcome::Refused(3);
+        return Err(Refusal::RecordLength);
     }
-    let cause = place_cause(bank.len(), k);
-    if cause != 0 {
-        return answer::Outcome::Refused(cause);
-    }
+    check_place(bank.len(), k)?;
     let to = 45 * k;
     let end = to + 45;
     store::store(rec, &mut bank[to..end])
 }
 
 // Reads block k into the output; the bank is not altered. The positions that are changed are added to the window.
-pub fn get(
-    bank: &[u8],
-    k: usize,
-    m: marks::Marks,
-    out: &mut [u8],
-    w: &mut [u8; 64],
-) -> reading::Reading
+pub fn get(bank: &[u8], k: usize, m: Marks, out: &mut [u8], w: &mut [u8; 64]) -> Reading
     ensures { GetDone bank.now k m out.old w.old (reading_answer result) bank.now out.new w.new }
 {
     if out.len() != 45 {
-        return reading::Reading::Refused(2);
+        return Err(Refusal::OutputLength.into());
     }
-    let cause = place_cause(bank.len(), k);
-    if cause != 0 {
-        return reading::Reading::Refused(cause);
-    }
+    check_place(bank.len(), k)?;
     let from = 45 * k;
     let end = from + 45;
     block::read_noted(&bank[from..end], m, out, w)
 }
 
 // Reads block k, and puts the corrected bytes back. The positions that are changed are added to the window.
-pub fn patrol(bank: &mut [u8], k: usize, m: marks::Marks, w: &mut [u8; 64]) -> reading::Reading
+pub fn patrol(bank: &mut [u8], k: usize, m: Marks, w: &mut [u8; 64]) -> Reading
     ensures { PatrolDone bank.old k m w.old (reading_answer result) bank.new w.new }
 {
-    let cause = place_cause(bank.len(), k);
-    if cause != 0 {
-        return reading::Reading::Refused(cause);
-    }
+    check_place(bank.len(), k)?;
     let start = 45 * k;
     let end = start + 45;
     block::mend(&mut bank[start..end], m, w)
 }
 
-fn kind_class(kind: reading::Kind) -> usize
-    ensures { result ≡ class (reading_answer (Corrected kind)) }
-{
-    match kind {
-        reading::Kind::Clean => 0,
-        reading::Kind::Chips(_) => 1,
-        reading::Kind::OneCard(_, _) => 2,
-    }
-}
-
-// Where a reading is counted: clean, chips, card, none, several.
-fn class_of(r: reading::Reading) -> usize
-    ensures { result ≡ class (reading_answer r) }
+// Counts one reading. Not inlined: one copy of it serves both loops.
+#[inline(never)]
+fn count(t: &mut Totals, r: Reading)
+    requires { EachAtMost 65534 t.old }
+    ensures { CountsOne (reading_answer r) t.old t.new }
 {
     match r {
-        reading::Reading::Corrected(kind) => kind_class(kind),
-        reading::Reading::Refused(_) => 3,
-        reading::Reading::Several(_) => 4,
+        Ok(Kind::Clean) => t.clean += 1,
+        Ok(Kind::Chips(_)) => t.chips += 1,
+        Ok(Kind::OneCard(_, _)) => t.card += 1,
+        Err(Fault::Refused(_)) => t.none += 1,
+        Err(Fault::Several(_)) => t.several += 1,
     }
 }
 
-// Which of the four blocks from block k on are to be looked at, a digit each: those that don't read as clean, and all where there are
-// not four. The 180 bytes are cut out here: cut out further down, they would not be gone through two blocks at once.
-fn left_from(bank: &[u8], k: usize) -> u64
-    requires { k < 1024 }
-    ensures { LeftFrom bank.now k 4 result × (bank.now ≡ bank.now) }
+// Four blocks are asked together which of them are clean, and those that are not are looked at.
+fn count_four(t: &mut Totals, four: &[u8; 180], m: Marks)
+    requires { (marks_cause m ≡ 0) × EachAtMost 65531 t.old }
+    ensures { CountsMore four.now m 4 t.old t.new }
 {
-    let at = 45 * k;
-    let end = at + 180;
-    if bank.len() < end {
-        return 15;
+    let mut left = block::four_unclean(four);
+    if left == 0 {
+        t.clean += 4;
+        return;
     }
-    block::four_unclean(&bank[at..end])
-}
-
-// Where block k is counted. It is looked at only where it is not known to be clean.
-fn class_at(bank: &[u8], k: usize, m: marks::Marks, left: u64) -> usize
-    requires { (45 * k + 45 ≤ length bank.now) × (length bank.now ≤ 46080) × (marks_cause m ≡ 0) × LeftFrom bank.now k 1 left }
-    ensures { ClassAt bank.now k m result × (bank.now ≡ bank.now) }
-{
-    let clean = left % 2 == 0;
-    if clean {
-        return 0;
-    }
-    let at = 45 * k;
-    let end = at + 45;
-    class_of(block::look(&bank[at..end], m))
-}
-
-// Four blocks at a time are asked which of them are clean, and those that are not are looked at.
-fn count_blocks(bank: &[u8], m: marks::Marks) -> [u16; 5]
-    requires { (length bank.now ≤ 46080) × (marks_cause m ≡ 0) }
-    ensures { CountedBlocks bank.now m (blocks bank.now) result × (bank.now ≡ bank.now) }
-{
-    let mut t = [0u16; 5];
-    let n = bank.len() / 45;
-    let mut k: usize = 0;
-    let mut left: u64 = 0;
-    while k < n {
-        if k % 4 == 0 {
-            left = left_from(bank, k);
-        }
-        if left == 0 {
-            // what is left of the four is clean
-            let more = 4 - k % 4;
-            t[0] = t[0] + (more as u16);
-            k = k + more;
+    for b in four.as_chunks::<45>().0 {
+        let clean = left % 2 == 0;
+        if clean {
+            t.clean += 1;
         } else {
-            let i = class_at(bank, k, m, left);
-            t[i] = t[i] + 1;
-            left = left / 2;
-            k = k + 1;
+            count(t, block::look(b, m));
         }
+        left /= 2;
+    }
+}
+
+// Four blocks at a time, and then those that are left. What is asked of bank and marks is known in `report`, which alone calls this: a struct
+// with ghost fields for this one function would be no plainer.
+fn count_blocks(bank: &[u8], m: Marks) -> Totals
+    requires { (length bank.now ≤ 46080) × (marks_cause m ≡ 0) }
+    ensures { CountedBlocks bank.now m (blocks bank.now) (five result) }
+{
+    let mut t = Totals::default();
+    let (fours, rest) = bank.as_chunks::<180>();
+    for four in fours {
+        count_four(&mut t, four, m);
+    }
+    for b in rest.as_chunks::<45>().0 {
+        count(&mut t, block::look(b, m));
     }
     t
 }
 
 // How many blocks read as clean, chips, card, none and several; nothing is altered.
-pub fn report(bank: &[u8], m: marks::Marks) -> Reported
+pub fn report(bank: &[u8], m: Marks) -> Result<Totals, Refusal>
     ensures { ReportDone bank.now m (report_answer result) bank.now }
 {
-    let cause = size_cause(bank.len());
-    if cause != 0 {
-        return Reported::Refused(cause);
-    }
-    let marked = marks::marks_cause(m);
-    if marked != 0 {
-        return Reported::Refused(marked);
-    }
-    let t = count_blocks(bank, m);
-    Reported::Counted(Totals {
-        clean: t[0],
-        chips: t[1],
-        card: t[2],
-        none: t[3],
-        several: t[4],
-    })
+    check_size(bank.len())?;
+    marks::check(m)?;
+    Ok(count_blocks(bank, m))
 }

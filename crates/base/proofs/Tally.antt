@@ -19,8 +19,9 @@ use native.Mathlib.Omega.{arith}
 use lib.Dec.{T, eqb}
 use lib.ListN.{length}
 use borrow.Author.Tests.{eq-eqb, ne_eqb}
+use Rattle.std.proofs.lemmas.Bool.{cases_eq}
 use Rattle.base.specs.Base.{is_in, bit, tally}
-use Rattle.base.proofs.Tests.{below_suc, same}
+use Rattle.base.proofs.Tests.{below_suc}
 
 pub clash : (t : Bool) → t ≡ true → t ≡ false → ⊥
 clash t p q = subst T (sym p ∙ q) tt
@@ -137,7 +138,7 @@ tally_either (suc n) g h k e = omega (arith, e n (lt-suc_self n), tally_either n
 tally_place : (n p : ℕ) → tally n (λ r. eqb r p) ≤ 1
 unfolding tally
 tally_place zero p = omega arith
-tally_place (suc n) p = pick (same n p) (tally_place n p)
+tally_place (suc n) p = pick (cases_eq n p) (tally_place n p)
   where
     pick : (n ≡ p) ⊎ (n ≢ p) → tally n (λ r. eqb r p) ≤ 1 → bit (eqb n p) + tally n (λ r. eqb r p) ≤ 1
     pick (inl e) h =

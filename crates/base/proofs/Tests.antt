@@ -1,11 +1,10 @@
 -- Tests that antt computes, and what holds where they pass.
-use mathlib.Core.Logic.{◌≢◌, ◌⊎◌, inl, inr}
+use mathlib.Core.Logic.{◌⊎◌, inl, inr}
 use mathlib.Core.Path.{◌≡◌, refl, sym, subst}
-use mathlib.Core.Bool.{Bool, true, false, ◌&&◌, ◌||◌, false≢true, true≢false}
-use Prim.Native.Nat.{ℕ, zero, suc, ◌<◌, ◌≤◌}
+use mathlib.Core.Bool.{Bool, true, false, ◌&&◌, ◌||◌}
+use Prim.Native.Nat.{ℕ, zero, suc, ◌<◌}
 use native.Mathlib.Nat.{not-suc-le-zero, le_of_suc-le-suc, eq-or-lt_of_le, lt-suc_self, lt_trans}
-use lib.Dec.{T, eqb, ltb}
-use borrow.Author.Tests.{eqb-true, eqb-false, ltb-true, ltb-false}
+use lib.Dec.{T}
 
 -- what holds below n and at n holds below n + 1
 pub below_suc : (P : ℕ → Type 0) (n : ℕ) → P n → ((j : ℕ) → j < n → P j) → (j : ℕ) → j < suc n → P j
@@ -15,32 +14,9 @@ below_suc P n p q j h = pick (eq-or-lt_of_le (le_of_suc-le-suc h))
     pick (inl e) = subst P (sym e) p
     pick (inr l) = q j l
 
-pub same : (a b : ℕ) → (a ≡ b) ⊎ (a ≢ b)
-same a b = pick (eqb a b) refl
-  where
-    pick : (t : Bool) → eqb a b ≡ t → (a ≡ b) ⊎ (a ≢ b)
-    pick true e = inl (eqb-true a b e)
-    pick false e = inr (eqb-false a b e)
-
-pub lt_or_le : (a b : ℕ) → (a < b) ⊎ (b ≤ a)
-lt_or_le a b = go (ltb a b) refl
-  where
-    go : (t : Bool) → ltb a b ≡ t → (a < b) ⊎ (b ≤ a)
-    go true e = inl (ltb-true a b e)
-    go false e = inr (ltb-false a b e)
-
 pub is_true : (t : Bool) → T t → t ≡ true
 is_true true h = refl
 is_true false h = absurd h
-
--- ---- a joined test, taken apart
-pub and_true : (s t : Bool) → (s && t) ≡ true → (s ≡ true) × (t ≡ true)
-and_true true t e = (refl, e)
-and_true false t e = absurd (false≢true e)
-
-pub or_false : (s t : Bool) → (s || t) ≡ false → (s ≡ false) × (t ≡ false)
-or_false true t e = absurd (true≢false e)
-or_false false t e = (refl, e)
 
 -- ---- joined with a test that is known
 pub and_no : (t : Bool) → t && false ≡ false

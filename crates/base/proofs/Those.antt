@@ -18,8 +18,9 @@ use native.Mathlib.Omega.{arith}
 use lib.Dec.{eqb, leb, ltb}
 use lib.ListN.{length, length-append}
 use borrow.Author.Tests.{eq-eqb, ne_eqb, lt-ltb, le-ltb, le-leb, lt-leb, ltb-true, ltb-false}
+use Rattle.std.proofs.lemmas.Bool.{cases_eq, cases_lt}
 use Rattle.base.specs.Base.{if, In, Rising, bit, tally, only, those, least}
-use Rattle.base.proofs.Tests.{same, lt_or_le, and_no, and_yes, or_no}
+use Rattle.base.proofs.Tests.{and_no, and_yes, or_no}
 use Rattle.base.proofs.Lists.{append_in}
 use Rattle.base.proofs.Tally.{clash}
 
@@ -95,7 +96,7 @@ passes_in (suc n) s g p i = pick (in_append p (only (g s) s) (those (suc s) n g)
 in_passes : (n s : ℕ) (g : ℕ → Bool) (p : ℕ) → s ≤ p → p < s + n → g p ≡ true → In p (those s n g)
 unfolding those
 in_passes zero s g p a b c = absurd (omega arith)
-in_passes (suc n) s g p a b c = append_in p (only (g s) s) (those (suc s) n g) (pick (same p s) (λ h. in_passes n (suc s) g p h (omega arith) c))
+in_passes (suc n) s g p a b c = append_in p (only (g s) s) (those (suc s) n g) (pick (cases_eq p s) (λ h. in_passes n (suc s) g p h (omega arith) c))
   where
     pick : (p ≡ s) ⊎ (p ≢ s) → (suc s ≤ p → In p (those (suc s) n g)) → In p (only (g s) s) ⊎ In p (those (suc s) n g)
     pick (inl e) f = inl (subst (λ (q : ℕ). In q (only (g s) s)) (sym e) (in_only (g s) s (ap g (sym e) ∙ c)))
@@ -159,7 +160,7 @@ between_out s n p (inl a) = ap (λ (t : Bool). t && ltb p (s + n)) (lt-leb s p a
 between_out s n p (inr a) = ap (λ (t : Bool). leb s p && t) (le-ltb p (s + n) a) ∙ and_no (leb s p)
 
 within_other : (s n : ℕ) (t : Bool) (p : ℕ) → s ≢ p → within s (suc n) t p ≡ within (suc s) n t p
-within_other s n t p e = ap (λ (b : Bool). only (t && b) p) (pick (lt_or_le s p) (lt_or_le p (suc s + n)))
+within_other s n t p e = ap (λ (b : Bool). only (t && b) p) (pick (cases_lt s p) (cases_lt p (suc s + n)))
   where
     pick : (s < p) ⊎ (p ≤ s) → (p < suc s + n) ⊎ (suc s + n ≤ p) → between s (suc n) p ≡ between (suc s) n p
     pick (inr a) h = between_out s (suc n) p (inl (omega arith)) ∙ sym (between_out (suc s) n p (inl (omega arith)))
@@ -178,7 +179,7 @@ unfolding those
 two_listed zero s g p q t u h z e = sym (ap₂ (λ (l k : List ℕ). l ++ k) (empty t p) (empty u q))
   where
     empty : (t : Bool) (p : ℕ) → within s 0 t p ≡ []
-    empty t p = ap (λ (b : Bool). only (t && b) p) (between_none (lt_or_le p s)) ∙ ap (λ (b : Bool). only b p) (and_no t)
+    empty t p = ap (λ (b : Bool). only (t && b) p) (between_none (cases_lt p s)) ∙ ap (λ (b : Bool). only b p) (and_no t)
       where
         between_none : (p < s) ⊎ (s ≤ p) → between s 0 p ≡ false
         between_none (inl a) = between_out s 0 p (inl a)
@@ -186,7 +187,7 @@ two_listed zero s g p q t u h z e = sym (ap₂ (λ (l k : List ℕ). l ++ k) (em
 two_listed (suc n) s g p q t u h z e =
     ap₂ (λ (b : Bool) (l : List ℕ). only b s ++ l) (e s (omega arith) (omega arith))
     (two_listed n (suc s) g p q t u h z (λ r a b. e r (omega arith) (omega arith)))
-    ∙ go (same s p) (same s q)
+    ∙ go (cases_eq s p) (cases_eq s q)
   where
     go : (s ≡ p) ⊎ (s ≢ p) → (s ≡ q) ⊎ (s ≢ q)
         → only ((eqb s p && t) || (eqb s q && u)) s ++ (within (suc s) n t p ++ within (suc s) n u q) ≡ within s (suc n) t p ++ within s (suc n) u q
@@ -227,7 +228,7 @@ least_is (suc n) g = go (least_is n g) (ltb (least n g) n) refl (g n) refl
     go w false e false f = record {
       most = omega arith;
       passes = λ l. absurd (omega arith);
-      below = λ i l. last i l (same i n);
+      below = λ i l. last i l (cases_eq i n);
     }
       where
         last : (i : ℕ) → i < suc n → (i ≡ n) ⊎ (i ≢ n) → g i ≡ false
@@ -235,7 +236,7 @@ least_is (suc n) g = go (least_is n g) (ltb (least n g) n) refl (g n) refl
         last i l (inr q) = w.below i (omega (arith, w.most, ltb-false (least n g) n e))
 
 pub least_one : (n : ℕ) (g : ℕ → Bool) (m : ℕ) → Least n g m → m ≡ least n g
-least_one n g m w = let v = least_is n g in pick v (lt_or_le m (least n g)) (lt_or_le (least n g) m)
+least_one n g m w = let v = least_is n g in pick v (cases_lt m (least n g)) (cases_lt (least n g) m)
   where
     pick : Least n g (least n g) → (m < least n g) ⊎ (least n g ≤ m) → (least n g < m) ⊎ (m ≤ least n g) → m ≡ least n g
     pick v (inl a) h = absurd (clash (g m) (w.passes (omega (arith, v.most))) (v.below m a))

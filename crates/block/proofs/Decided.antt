@@ -7,7 +7,7 @@ use mathlib.Core.Path.{◌≡◌, refl, sym, ap, ap₂, ◌∙◌}
 use mathlib.Core.Logic.{◌≢◌, ◌⊎◌, inl, inr}
 use mathlib.Core.List.{List, []}
 use lib.ListN.{length, take, drop}
-use Rattle.base.proofs.Tests.{same}
+use Rattle.std.proofs.lemmas.Bool.{cases_eq}
 use Rattle.answer.specs.Answer.{Answer, done, clean, in_chips, in_card, counted, refused, refused_card, number}
 use Rattle.answer.proofs.Causes.{Agreed, by_agree, by_same}
 use Rattle.marks.specs.declared.Marks.{Marks}
@@ -57,7 +57,7 @@ look_decided b m a a' x x' w v = (
 )
 
 pub four_unclean_decided : (b : List ℕ) (r r' : ℕ) (x x' : List ℕ) → FourUnclean b r x → FourUnclean b r' x' → (r ≡ r') × (x ≡ x')
-four_unclean_decided b r r' x x' w v = (pick (same (length b) 180), w.kept ∙ sym v.kept)
+four_unclean_decided b r r' x x' w v = (pick (cases_eq (length b) 180), w.kept ∙ sym v.kept)
   where
     pick : (length b ≡ 180) ⊎ (length b ≢ 180) → r ≡ r'
     pick (inl e) = four_digits (λ k. ReadsClean (take 45 (drop (45 * k) b))) r r' w.below v.below (w.four e) (v.four e)

@@ -4,3 +4,4 @@ pub mod Done
 pub mod Exact
 pub mod Tied
 pub mod Decided
+pub mod Said

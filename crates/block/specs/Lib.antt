@@ -1,3 +1,4 @@
 pub mod Read
 pub mod Steps
 pub mod Exactly
+pub mod Said

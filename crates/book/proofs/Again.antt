@@ -21,8 +21,8 @@ use Rattle.marks.proofs.Again.{placed_there, mark_again}
 use Rattle.registers.specs.Registers.{register}
 use Rattle.registers.specs.Write.{command_of, Runs, answer_byte, write_cause, Writes, WriteDone}
 use Rattle.registers.specs.declared.Registers.{Registers}
-use Rattle.registers.specs.declared.Command.{Command}
-use Rattle.registers.specs.declared.Command.TheVariants.{Get, Patrol, Mark, Unknown}
+use Rattle.registers.specs.Write.{Command}
+use Rattle.registers.specs.Write.{Get, Patrol, Mark, Unknown}
 use Rattle.registers.proofs.Writes.{known_0}
 use Rattle.registers.proofs.Leaves.{command_again}
 use Rattle.book.specs.Book.{Call, clear, put, get, patrol, report, mark, clear_window, Entry, call, write, hit}

@@ -17,8 +17,8 @@ use Rattle.block.proofs.Decided.{changed_agree}
 use Rattle.bank.specs.Calls.{clear_cause, put_cause, get_cause, patrol_cause, report_cause}
 use Rattle.bank.proofs.Each.{counts_agree}
 use Rattle.registers.specs.Write.{command_of, ran, write_cause}
-use Rattle.registers.specs.declared.Command.{Command}
-use Rattle.registers.specs.declared.Command.TheVariants.{Get, Patrol, Mark, Unknown}
+use Rattle.registers.specs.Write.{Command}
+use Rattle.registers.specs.Write.{Get, Patrol, Mark, Unknown}
 use Rattle.book.specs.Book.{Call, clear, put, get, patrol, report, mark, clear_window, Entry, call, write, hit, says, Seen}
 use Rattle.book.specs.Book.{Book, fresh_book, many, size, registers_of, marks_of, held_at, with_front, with_both, with_held, noted}
 use Rattle.book.specs.Book.{CallSays, CommandSays, WriteSays, Step, Booked, OneBook, TwoCabinets}

@@ -16,14 +16,14 @@ use lib.Dec.{eqb}
 use lib.ListN.{length, set, length-replicate, length-set, replicate}
 use lib.Seq.{get_or-set_same, get_or-set_other}
 use borrow.Author.Tests.{eq-eqb, ne_eqb}
+use Rattle.std.proofs.lemmas.Bool.{cases_eq}
 use Rattle.base.specs.Base.{bit, only}
-use Rattle.base.proofs.Tests.{same}
 use Rattle.base.proofs.Tally.{one_le}
 use Rattle.base.proofs.Those.{two_listed, between_in}
 use Rattle.answer.specs.Answer.{Answer, done, clean, in_chips, in_card, counted, refused, refused_card}
 use Rattle.answer.proofs.Causes.{by_accepted}
 use Rattle.marks.specs.Marks.{fresh_marks}
-use Rattle.marks.specs.declared.CardMark.TheVariants.{None}
+use Rattle.std.specs.Prelude.{None}
 use Rattle.marks.specs.declared.Marks.{Marks}
 use Rattle.marks.proofs.Laws.{few_chips}
 use Rattle.code.specs.Block.{byte, zeros, Stored, differing}
@@ -32,7 +32,7 @@ use Rattle.code.proofs.BuiltIn.{built_in_set}
 use Rattle.reading.specs.Reading.{S, ReadsUnder}
 use Rattle.reading.proofs.Facts.{chip_one}
 use Rattle.window.specs.Window.{last_64, proposal, window_of}
-use Rattle.window.specs.declared.Proposal.TheVariants.{Chip, Nothing}
+use Rattle.window.specs.Window.{Chip, Nothing}
 use Rattle.window.proofs.Proposed.{proposed_exactly}
 use Rattle.block.specs.Read.{changed_at}
 use Rattle.bank.specs.Calls.{block, get_cause}
@@ -47,7 +47,7 @@ use Rattle.book.proofs.OneHit.{one_byte, fresh_lawful, after, gets, put_then, he
 one_differs : (b : List ℕ) (i x : ℕ) → length b ≡ 45 → i < 45 → byte b i ≢ x → differing (set b i x) b ≡ i ∷ []
 unfolding differing
 one_differs b i x l h n =
-    two_listed 45 0 (λ p. not (eqb (byte (set b i x) p) (byte b p))) i i true false (omega arith) (λ e. refl) (λ p g k. at p (same p i))
+    two_listed 45 0 (λ p. not (eqb (byte (set b i x) p) (byte b p))) i i true false (omega arith) (λ e. refl) (λ p g k. at p (cases_eq p i))
     ∙ ap (λ (t : Bool). only (true && t) i ++ []) (between_in 0 45 i (omega arith) (omega arith))
   where
     at : (p : ℕ) → (p ≡ i) ⊎ (p ≢ i) → not (eqb (byte (set b i x) p) (byte b p)) ≡ (eqb p i && true) || (eqb p i && false)

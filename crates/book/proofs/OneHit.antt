@@ -13,8 +13,8 @@ use lib.Dec.{eqb}
 use lib.ListN.{length, take, replicate, set, length-set, length-replicate}
 use lib.Seq.{get_or-set_same, get_or-set_other}
 use borrow.Author.Tests.{eq-eqb}
+use Rattle.std.proofs.lemmas.Bool.{cases_eq}
 use Rattle.base.specs.Base.{if}
-use Rattle.base.proofs.Tests.{same}
 use Rattle.answer.specs.Answer.{Answer}
 use Rattle.answer.proofs.Causes.{by_accepted}
 use Rattle.marks.specs.Marks.{fresh_marks}
@@ -27,7 +27,7 @@ use Rattle.bank.proofs.Accepted.{accepts}
 use Rattle.registers.specs.Registers.{fresh_registers}
 use Rattle.registers.specs.Write.{command_of, stored}
 use Rattle.registers.specs.declared.Registers.{Registers}
-use Rattle.registers.specs.declared.Command.TheVariants.{Get}
+use Rattle.registers.specs.Write.{Get}
 use Rattle.registers.proofs.Writes.{plain_0}
 use Rattle.book.specs.Book.{put, get, Entry, call, write, hit, says, Seen, State, fresh_state, Ran}
 use Rattle.book.specs.Book.{Book, fresh_book, registers_of, marks_of, held_at, with_both, with_held, with_front, Booked, Step}
@@ -38,7 +38,7 @@ use Rattle.book.proofs.Hits.{puts, put_from}
 use Rattle.book.proofs.Calls.{calls_give_last_put}
 
 pub one_byte : (b : List ℕ) (i x : ℕ) → ChipKind [] (set b i x) b
-one_byte b i x = (i ∷ [], omega arith, λ p l. at p (same p i))
+one_byte b i x = (i ∷ [], omega arith, λ p l. at p (cases_eq p i))
   where
     at : (p : ℕ) → (p ≡ i) ⊎ (p ≢ i) → (byte (set b i x) p ≡ byte b p) ⊎ (⊥ ⊎ ((p ≡ i) ⊎ ⊥))
     at p (inl e) = inr (inr (inl e))

@@ -22,8 +22,8 @@ use Rattle.block.specs.Read.{changed_at}
 use Rattle.bank.specs.Calls.{clear_cause, patrol_cause}
 use Rattle.bank.proofs.Accepted.{accepts}
 use Rattle.registers.specs.Write.{command_of}
-use Rattle.registers.specs.declared.Command.{Command}
-use Rattle.registers.specs.declared.Command.TheVariants.{Patrol}
+use Rattle.registers.specs.Write.{Command}
+use Rattle.registers.specs.Write.{Patrol}
 use Rattle.registers.proofs.Writes.{known_0}
 use Rattle.book.specs.Book.{clear, put, clear_window, call, write, hit, State, Seen, Book, fresh_book, size, registers_of, marks_of, held_at}
 use Rattle.book.specs.Book.{with_front, CommandSays, Booked, Step}

@@ -19,8 +19,8 @@ use Rattle.code.proofs.Differing.{differing_below}
 use Rattle.block.specs.Read.{is_corrected, changed_at}
 use Rattle.bank.specs.Calls.{clear_cause, put_cause, get_cause, patrol_cause}
 use Rattle.registers.specs.Write.{command_of, write_cause}
-use Rattle.registers.specs.declared.Command.{Command}
-use Rattle.registers.specs.declared.Command.TheVariants.{Get, Patrol, Mark, Unknown}
+use Rattle.registers.specs.Write.{Command}
+use Rattle.registers.specs.Write.{Get, Patrol, Mark, Unknown}
 use Rattle.book.specs.Book.{Call, clear, put, get, patrol, report, mark, clear_window, Entry, call, write, hit, Seen}
 use Rattle.book.specs.Book.{Book, fresh_book, size, registers_of, marks_of, held_at, CallSays, CommandSays, WriteSays, Step, Booked}
 use Rattle.book.specs.Noted.{RunOfPositions, ProposalSeen}

@@ -14,16 +14,16 @@ use mathlib.Core.List.{List, [], ◌∷◌, ◌++◌}
 use native.Mathlib.Omega.{arith}
 use lib.ListN.{length, take, replicate, set, length-set, length-replicate}
 use lib.Seq.{get_or-set_same, get_or-set_other}
+use Rattle.std.proofs.lemmas.Bool.{cases_eq}
 use Rattle.base.specs.Base.{In}
 use Rattle.base.proofs.Few.{few_one}
-use Rattle.base.proofs.Tests.{same}
 use Rattle.answer.specs.Answer.{Answer}
 use Rattle.answer.proofs.Causes.{by_accepted}
 use Rattle.code.specs.Block.{byte, zeros, DifferOnly}
 use Rattle.marks.specs.Marks.{LawfulMarks, fresh_marks, marked_chips}
 use Rattle.marks.specs.Mark.{of_chips, marked, mark_cause}
-use Rattle.marks.specs.declared.CardMark.{CardMark}
-use Rattle.marks.specs.declared.CardMark.TheVariants.{None, Card}
+use Rattle.std.specs.declared.option.Option.{Option}
+use Rattle.std.specs.Prelude.{None, Some}
 use Rattle.marks.specs.declared.Marks.{Marks}
 use Rattle.marks.specs.declared.MarkCall.{MarkCall}
 use Rattle.marks.specs.declared.MarkCall.TheVariants.{PlaceChip, PlaceCard}
@@ -52,7 +52,7 @@ module _ (n k : ℕ) (hk : k < n) (m : Marks) (good : List ℕ) (P : ℕ → Typ
 
   after_hit : (b b' : Book) (i x : ℕ) (s : Seen) → i / 45 ≡ k → P (i % 45) → Step b (hit i x) s b' → Held b → Held b'
   after_hit b b' i x s e at w (now, h, only) =
-      (set now (i % 45) x, hit_holds n k hk m good now i x e b h s b' w, λ q l. each q l (same q (i % 45)))
+      (set now (i % 45) x, hit_holds n k hk m good now i x e b h s b' w, λ q l. each q l (cases_eq q (i % 45)))
     where
       each : (q : ℕ) → q < 45 → (q ≡ i % 45) ⊎ (q ≢ i % 45) → (byte (set now (i % 45) x) q ≡ byte good q) ⊎ P q
       each q l (inl z) = inr (subst P (sym z) at)
@@ -79,10 +79,10 @@ mark_then b b' c s z w = (by_accepted _ w.says.0 _ _ z w.says.2.1).1
 
 -- chip p marked, and its card
 abbrev both : ℕ → Marks
-both p = of_chips (Card (p / 9)) (p ∷ [])
+both p = of_chips (Some (p / 9)) (p ∷ [])
 
 lawful : (p : ℕ) → p < 45 → LawfulMarks (both p)
-lawful p hp = few_lawful (Card (p / 9)) (p ∷ []) (omega arith) (few_one p hp)
+lawful p hp = few_lawful (Some (p / 9)) (p ∷ []) (omega arith) (few_one p hp)
 
 module _ (n k : ℕ) (hi : n ≤ 1024) (hk : k < n) (rec : List ℕ) (lr : length rec ≡ 34) (p : ℕ) (hp : p < 45) where
   begun : (b₁ b₂ b₃ : Book) (s₁ s₂ s₃ : Seen) → Step (fresh_book n) (call (put k rec)) s₁ b₁ → Step b₁ (call (mark (PlaceChip p))) s₂ b₂
@@ -118,12 +118,12 @@ hits_keep n k j i x (call c ∷ hits) g r = absurd g
 hits_keep n k j i x (write a v out ∷ hits) g r = absurd g
 
 -- a card is marked
-marked_card : (c : CardMark) (j : ℕ) → c ≡ Card j → c ≡ None → ⊥
+marked_card : (c : Option ℕ) (j : ℕ) → c ≡ Some j → c ≡ None → ⊥
 marked_card c j e z = subst Is (sym e ∙ z) tt
   where
-    Is : CardMark → Type 0
+    Is : Option ℕ → Type 0
     Is None = ⊥
-    Is (Card i) = Unit {0}
+    Is (Some i) = Unit {0}
 
 pub card_pulled : CardPulled
 unfolding last_put
@@ -150,7 +150,7 @@ card_pulled n k hi hk rec out lr lq p hp hits on i x h ss s r =
     allowed good b f =
         let enough = subst (λ (c : ℕ). 1 ≤ further_beside c) (sym (u_on (p / 9) (p ∷ []) on_it)) (omega arith) in
         subst (λ (m : Marks). Allowed m.card (marked_chips m) (held_at b k) (good_at b k)) (sym f.1.marks)
-        (subst (λ (y : List ℕ). Allowed (Card (p / 9)) (p ∷ []) (held_at b k) y) (sym f.1.kept)
+        (subst (λ (y : List ℕ). Allowed (Some (p / 9)) (p ∷ []) (held_at b k) y) (sym f.1.kept)
         (i ∷ [], enough, subst (λ (y : List ℕ). DifferOnly Where y good) (sym f.1.held) f.2))
 
     last_record : last_put n k (replicate 34 0) (pulled k rec p hits i x) ≡ rec

@@ -24,8 +24,8 @@ use Rattle.answer.specs.Answer.{Answer, done, clean, in_chips, in_card, counted,
 use Rattle.answer.proofs.Causes.{by_accepted}
 use Rattle.marks.specs.Marks.{CardInRange, LawfulMarks, marked_chips}
 use Rattle.marks.specs.Mark.{mark_cause, marked}
-use Rattle.marks.specs.declared.CardMark.{CardMark}
-use Rattle.marks.specs.declared.CardMark.TheVariants.{None, Card}
+use Rattle.std.specs.declared.option.Option.{Option}
+use Rattle.std.specs.Prelude.{None, Some}
 use Rattle.marks.specs.declared.Marks.{Marks}
 use Rattle.marks.proofs.Laws.{cause_lawful, few_chips}
 use Rattle.code.specs.Block.{Stored, TwoMembers, OneMember, zeros}
@@ -39,8 +39,8 @@ use Rattle.bank.specs.Calls.{clear_cause, put_cause, get_cause, patrol_cause, cl
 use Rattle.registers.specs.Registers.{fresh_registers}
 use Rattle.registers.specs.Write.{command_of, write_cause}
 use Rattle.registers.specs.Plain.{last_answer}
-use Rattle.registers.specs.declared.Command.{Command}
-use Rattle.registers.specs.declared.Command.TheVariants.{Get, Patrol, Mark, Unknown}
+use Rattle.registers.specs.Write.{Command}
+use Rattle.registers.specs.Write.{Get, Patrol, Mark, Unknown}
 use Rattle.registers.proofs.Commands.{Comes, reading_comes}
 use Rattle.registers.proofs.Writes.{known_0}
 use Rattle.book.specs.Book.{clear, put, get, patrol, report, mark, clear_window, Entry, call, write, hit, says, Seen, State, Rest, rest_of}
@@ -199,13 +199,13 @@ module _ (b : Book) (k : ℕ) (rec : List ℕ) (lawful : LawfulMarks (marks_of b
   unfolding Fits
   member = record { block = good.block; lawful = good.lawful; allowed = damage }
 
-  no_card : (c : CardMark) → (marks_of b).card ≡ c → CardInRange c → TwoMembers Fits → (marks_of b).card ≡ None
+  no_card : (c : Option ℕ) → (marks_of b).card ≡ c → CardInRange c → TwoMembers Fits → (marks_of b).card ≡ None
   unfolding Fits
   no_card None e h w = e
-  no_card (Card j) e h (x, y, sx, sy, ne) =
+  no_card (Some j) e h (x, y, sx, sy, ne) =
       let at : (x : List ℕ) → S built_in (marks_of b).card (marked_chips (marks_of b)) (held_at b k) x
-      → S built_in (Card j) (marked_chips (marks_of b)) (held_at b k) x =
-      λ x s. subst (λ (c : CardMark). S built_in c (marked_chips (marks_of b)) (held_at b k) x) e s in
+      → S built_in (Some j) (marked_chips (marks_of b)) (held_at b k) x =
+      λ x s. subst (λ (c : Option ℕ). S built_in c (marked_chips (marks_of b)) (held_at b k) x) e s in
       absurd (ne (card_one built_in built_in_set (marked_chips (marks_of b)) (few_chips (marks_of b) lawful) (held_at b k) j h x y (at x sx) (at y sy)))
 
   no_chips : TwoMembers Fits → DamageOfChipKind b k → ⊥

@@ -30,8 +30,8 @@ use Rattle.window.specs.Window.{fresh_window, added}
 use Rattle.block.specs.Read.{changed_at}
 use Rattle.registers.specs.Write.{command_of, is_unknown, Runs, told_by, ran, stored, write_cause}
 use Rattle.registers.specs.declared.Registers.{Registers}
-use Rattle.registers.specs.declared.Command.{Command}
-use Rattle.registers.specs.declared.Command.TheVariants.{Get, Patrol, Mark, Unknown}
+use Rattle.registers.specs.Write.{Command}
+use Rattle.registers.specs.Write.{Get, Patrol, Mark, Unknown}
 use Rattle.registers.proofs.Writes.{unknown_14, write_refused, write_stored, command_done}
 use Rattle.book.specs.Book.{Call, clear, put, get, patrol, report, mark, clear_window, Entry, call, write, hit}
 use Rattle.book.specs.Book.{State, says, nothing_said, Seen, state, seen, rest_of, in_force, with_record, fresh_state}

@@ -15,7 +15,8 @@ use Prim.Native.Nat.{ℕ, ◌<◌}
 use mathlib.Core.Path.{◌≡◌, refl}
 use mathlib.Core.List.{List, []}
 use lib.ListN.{length, set}
-use Rattle.answer.specs.Answer.{outcome_answer}
+use Rattle.answer.specs.Answer.{done, outcome_answer}
+use Rattle.window.specs.Window.{proposal_of}
 use Rattle.reading.specs.Reading.{reading_answer}
 use Rattle.bank.specs.Calls.{report_answer}
 use Rattle.marks.specs.declared.Marks.{Marks}
@@ -95,24 +96,24 @@ report_called κs a r ws f win l =
     let s = Clauses.at_exit (Kinds.ended_of 1 report_kinds.ps report_kinds.r) κs a ws in
     (report_answer r, s.0.now, report_tied κs a r ws l, refl)
 
-pub mark_called : (κs : Lifetimes.Lfts 0) (a : World.ArgsD mark.signature κs) (r : World.ResD mark.signature κs)
-    (s : Clauses.AtExit (Kinds.ended_of 0 mark_kinds.ps mark_kinds.r) κs) (bank f win : List ℕ) → mark_reads.Learnt κs a r s
-    → CallDone (state bank (with_marks_of f a.0) win) (Call.mark a.1.0)
-    (seen (says (outcome_answer r.answer)) [] (state bank (with_marks_of f r.marks) win))
-mark_called κs a r s bank f win l = (outcome_answer r.answer, r.marks, mark_tied κs a r s l, refl)
+pub mark_called : (κs : Lifetimes.Lfts 1) (a : World.ArgsD mark.signature κs) (r : World.ResD mark.signature κs)
+    (s : Clauses.AtExit (Kinds.ended_of 1 mark_kinds.ps mark_kinds.r) κs) (bank f win : List ℕ) → mark_reads.Learnt κs a r s
+    → CallDone (state bank (with_marks_of f a.0.now) win) (Call.mark a.1.0)
+    (seen (says (outcome_answer r)) [] (state bank (with_marks_of f s.0.now) win))
+mark_called κs a r s bank f win l = (outcome_answer r, s.0.now, mark_tied κs a r s l, refl)
 
 pub clear_window_called : (κs : Lifetimes.Lfts 1) (a : World.ArgsD clear_window.signature κs) (r : World.ResD clear_window.signature κs)
     (s : Clauses.AtExit (Kinds.ended_of 1 clear_window_kinds.ps clear_window_kinds.r) κs) (bank : List ℕ) (w : Rest) → clear_window_reads.Learnt κs a r s
-    → CallDone (state bank w a.0.now) (Call.clear_window) (seen (says (outcome_answer r)) [] (state bank w s.0.now))
-clear_window_called κs a r s bank w l = (outcome_answer r, s.0.now, clear_window_tied κs a r s l, refl)
+    → CallDone (state bank w a.0.now) (Call.clear_window) (seen (says done) [] (state bank w s.0.now))
+clear_window_called κs a r s bank w l = (done, s.0.now, clear_window_tied κs a r s l, refl)
 
-pub write_called : (κs : Lifetimes.Lfts 3) (a : World.ArgsD write.signature κs) (r : World.ResD write.signature κs)
-    (s : Clauses.AtExit (Kinds.ended_of 3 write_kinds.ps write_kinds.r) κs) → write_reads.Learnt κs a r s
-    → EntryDone (state a.1.1.1.0.now (rest_of a.0) a.1.1.1.1.1.0.now)
+pub write_called : (κs : Lifetimes.Lfts 4) (a : World.ArgsD write.signature κs) (r : World.ResD write.signature κs)
+    (s : Clauses.AtExit (Kinds.ended_of 4 write_kinds.ps write_kinds.r) κs) → write_reads.Learnt κs a r s
+    → EntryDone (state a.1.1.1.0.now (rest_of a.0.now) a.1.1.1.1.1.0.now)
     (Entry.write a.1.0 a.1.1.0 a.1.1.1.1.0.now)
-    (seen (says (outcome_answer r.answer)) s.1.1.1.1.0.now (state s.1.1.1.0.now (rest_of r.registers) s.1.1.1.1.1.0.now))
+    (seen (says (outcome_answer r)) s.1.1.1.1.0.now (state s.1.1.1.0.now (rest_of s.0.now) s.1.1.1.1.1.0.now))
 write_called κs a r s l =
-    (outcome_answer r.answer, r.registers, s.1.1.1.0.now, s.1.1.1.1.0.now, s.1.1.1.1.1.0.now, write_tied κs a r s l, refl)
+    (outcome_answer r, s.0.now, s.1.1.1.0.now, s.1.1.1.1.0.now, s.1.1.1.1.1.0.now, write_tied κs a r s l, refl)
 
 pub interrupt_called : (κs : Lifetimes.Lfts 0) (a : World.ArgsD interrupt.signature κs) (r : World.ResD interrupt.signature κs)
     (s : Clauses.AtExit (Kinds.ended_of 0 interrupt_kinds.ps interrupt_kinds.r) κs) (said : Said) (out bank win : List ℕ) → interrupt_reads.Learnt κs a r s
@@ -122,7 +123,7 @@ interrupt_called κs a r s said out bank win l = interrupt_tied κs a r s l
 pub propose_called : (κs : Lifetimes.Lfts 1) (a : World.ArgsD propose.signature κs) (r : World.ResD propose.signature κs)
     (ws : Clauses.Lasts (Kinds.ended_of 1 propose_kinds.ps propose_kinds.r) κs a) (said : Said) (out bank f : List ℕ)
     → let s = Clauses.at_exit (Kinds.ended_of 1 propose_kinds.ps propose_kinds.r) κs a ws in propose_reads.Learnt κs a r s
-    → (r ≡ (seen said out (state bank (with_marks_of f a.1.0) a.0.now)).proposal) × (s.0.now ≡ a.0.now)
+    → (proposal_of r ≡ (seen said out (state bank (with_marks_of f a.1.0) a.0.now)).proposal) × (s.0.now ≡ a.0.now)
 propose_called κs a r ws said out bank f l = let d = propose_tied κs a r ws l in (d.proposed, d.kept)
 
 pub hit_done : (σ : State) (i x : ℕ) → i < length σ.bank → x < 256 → EntryDone σ (hit i x)

@@ -29,8 +29,8 @@ use Rattle.bank.specs.Calls.{block, get_cause, patrol_cause}
 use Rattle.bank.proofs.Accepted.{accepts}
 use Rattle.registers.specs.Plain.{last_answer}
 use Rattle.registers.specs.Write.{asked_block, command_of}
-use Rattle.registers.specs.declared.Command.{Command}
-use Rattle.registers.specs.declared.Command.TheVariants.{Get, Patrol}
+use Rattle.registers.specs.Write.{Command}
+use Rattle.registers.specs.Write.{Get, Patrol}
 use Rattle.registers.proofs.Writes.{known_0}
 use Rattle.book.specs.Book.{put, Entry, call, hit, State, Seen, says, in_force, fresh_state, EntryDone, Ran}
 use Rattle.book.specs.Book.{Book, fresh_book, size, registers_of, marks_of, held_at, with_held, noted, state_of, CommandSays, Booked, Step}

@@ -12,7 +12,7 @@ use Rattle.answer.specs.Answer.{done}
 use Rattle.answer.proofs.Causes.{by_accepted}
 use Rattle.marks.specs.Marks.{fresh_marks}
 use Rattle.marks.specs.Mark.{of_chips, marked}
-use Rattle.marks.specs.declared.CardMark.TheVariants.{None}
+use Rattle.std.specs.Prelude.{None}
 use Rattle.marks.specs.declared.MarkCall.TheVariants.{PlaceChip}
 use Rattle.marks.proofs.Few.{few_lawful}
 use Rattle.marks.proofs.Laws.{mark_done}
@@ -21,7 +21,7 @@ use Rattle.window.specs.Window.{fresh_window}
 use Rattle.registers.specs.Registers.{register, fresh_registers}
 use Rattle.registers.specs.Write.{command_of, stored, write_cause, WriteDone}
 use Rattle.registers.specs.declared.Registers.{Registers}
-use Rattle.registers.specs.declared.Command.TheVariants.{Mark}
+use Rattle.registers.specs.Write.{Mark}
 use Rattle.registers.proofs.Writes.{plain_0}
 use Rattle.book.specs.Book.{mark, write, State, says, Seen, state, seen, rest_of, in_force, fresh_state, CallDone, EntryDone, Ran}
 use Rattle.book.specs.Again.{TwoOfUs}

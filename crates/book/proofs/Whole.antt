@@ -18,8 +18,8 @@ use Rattle.window.proofs.Proposed.{window_proposal}
 use Rattle.registers.specs.Registers.{fresh_registers, raised}
 use Rattle.registers.specs.Write.{command_of, Runs, ran, stored, write_cause, Writes, WriteDone}
 use Rattle.registers.specs.declared.Registers.{Registers}
-use Rattle.registers.specs.declared.Command.{Command}
-use Rattle.registers.specs.declared.Command.TheVariants.{Get, Patrol, Mark, Unknown}
+use Rattle.registers.specs.Write.{Command}
+use Rattle.registers.specs.Write.{Get, Patrol, Mark, Unknown}
 use Rattle.book.specs.Book.{Call, clear, put, get, patrol, report, mark, clear_window, Entry, call, write, hit}
 use Rattle.book.specs.Book.{Rest, State, says, Seen, state, seen, rest_of, in_force, with_record, fresh_state}
 use Rattle.book.specs.Book.{CallDone, EntryDone, Ran, Book, fresh_book, flat, state_of}

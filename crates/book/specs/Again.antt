@@ -10,12 +10,12 @@ use Rattle.std.specs.Prelude.{ℕ, ◌<◌, ◌≡◌, ◌⊎◌, true, List, []
 use Rattle.answer.specs.Answer.{done}
 use Rattle.marks.specs.Marks.{LawfulMarks}
 use Rattle.marks.specs.Mark.{of_chips, places, Already}
-use Rattle.marks.specs.declared.CardMark.TheVariants.{None}
+use Rattle.std.specs.Prelude.{None}
 use Rattle.marks.specs.declared.MarkCall.{MarkCall}
 use Rattle.marks.specs.declared.MarkCall.TheVariants.{PlaceChip}
 use Rattle.registers.specs.Registers.{register}
 use Rattle.registers.specs.Write.{command_of, ran}
-use Rattle.registers.specs.declared.Command.TheVariants.{Mark}
+use Rattle.registers.specs.Write.{Mark}
 use Rattle.book.specs.Book.{mark, Entry, call, write, State, says, Seen, state, seen, rest_of, in_force, fresh_state}
 use Rattle.book.specs.Book.{CallDone, EntryDone, Ran, Book, fresh_book, state_of, Booked}
 

@@ -19,15 +19,15 @@ use Rattle.code.specs.Block.{zeros, OneMember, Stored}
 use Rattle.code.specs.Labels.{built_in}
 use Rattle.reading.specs.Reading.{ReadsUnder}
 use Rattle.window.specs.Window.{last_64, window_of, fresh_window, proposal, ClearWindowDone}
-use Rattle.window.specs.declared.Proposal.{Proposal}
+use Rattle.window.specs.Window.{Proposal}
 use Rattle.block.specs.Read.{changed_at}
 use Rattle.bank.specs.Calls.{clear_cause, put_cause, get_cause, patrol_cause, report_cause}
 use Rattle.bank.specs.Calls.{ClearDone, PutDone, GetDone, PatrolDone, ReportDone, CountsEach}
 use Rattle.registers.specs.Registers.{fresh_registers, raised}
 use Rattle.registers.specs.Write.{command_of, ran, stored, write_cause, WriteDone}
 use Rattle.registers.specs.declared.Registers.{Registers}
-use Rattle.registers.specs.declared.Command.{Command}
-use Rattle.registers.specs.declared.Command.TheVariants.{Get, Patrol, Mark, Unknown}
+use Rattle.registers.specs.Write.{Command}
+use Rattle.registers.specs.Write.{Get, Patrol, Mark, Unknown}
 
 -- ---- the list
 pub data Call : Type 0 where

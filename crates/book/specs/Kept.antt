@@ -13,13 +13,13 @@ use Rattle.std.specs.Prelude.{ℕ, ◌+◌, ◌*◌, ◌/◌, ◌%◌, ◌≤◌
 use Rattle.base.specs.Base.{if}
 use Rattle.answer.specs.Answer.{Answer, done, refused_card}
 use Rattle.marks.specs.Marks.{marked_chips}
-use Rattle.marks.specs.declared.CardMark.TheVariants.{None}
+use Rattle.std.specs.Prelude.{None}
 use Rattle.reading.specs.Allowed.{Allowed, OfChipKind}
 use Rattle.block.specs.Read.{is_corrected}
 use Rattle.bank.specs.Calls.{put_cause, get_cause}
 use Rattle.registers.specs.Write.{command_of}
 use Rattle.registers.specs.Plain.{last_answer}
-use Rattle.registers.specs.declared.Command.TheVariants.{Get}
+use Rattle.registers.specs.Write.{Get}
 use Rattle.book.specs.Book.{clear, put, get, patrol, report, mark, clear_window, Entry, call, write, hit, says, Seen, fresh_state, Ran}
 use Rattle.book.specs.Book.{Book, fresh_book, registers_of, marks_of, held_at, Booked, Step}
 

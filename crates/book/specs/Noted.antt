@@ -9,8 +9,8 @@ use Rattle.std.specs.Prelude.{ℕ, ◌+◌, ◌*◌, ◌/◌, ◌%◌, ◌≤◌
 use Rattle.base.specs.Base.{In}
 use Rattle.code.specs.Block.{byte}
 use Rattle.window.specs.Window.{window_of, fresh_window, ProposeDone}
-use Rattle.window.specs.declared.Proposal.{Proposal}
-use Rattle.window.specs.declared.Proposal.TheVariants.{Chip, Nothing}
+use Rattle.window.specs.Window.{Proposal}
+use Rattle.window.specs.Window.{Chip, Nothing}
 use Rattle.bank.specs.Calls.{block}
 use Rattle.book.specs.Book.{Entry, clear, put, get, clear_window, call, write, hit, State, Said, Seen, seen, in_force, fresh_state, Ran}
 use Rattle.book.specs.Book.{Book, fresh_book, Booked}

@@ -15,7 +15,7 @@ use Rattle.reading.specs.TwoBad.{TwoBad, TwoSay}
 use Rattle.bank.specs.Calls.{block, get_cause, patrol_cause}
 use Rattle.registers.specs.Registers.{register}
 use Rattle.registers.specs.Write.{command_of}
-use Rattle.registers.specs.declared.Command.TheVariants.{Patrol}
+use Rattle.registers.specs.Write.{Patrol}
 use Rattle.book.specs.Book.{put, get, patrol, Entry, call, write, hit, says, Seen, in_force, fresh_state, Ran}
 use Rattle.book.specs.Book.{Book, fresh_book, registers_of, marks_of, held_at, Booked}
 use Rattle.book.specs.Kept.{good_at, last_put, GetOf, Answers}

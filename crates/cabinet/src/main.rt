@@ -18,6 +18,7 @@ fn print_reading<R: Read + Drop, W: Write>(from: R, to: &mut W) -> io::Result<()
     ensures { IfSome (R.remaining from) (λ input. OnOk result (Written input (W.contents to.old) (W.contents to.new))) }
 {
     let mut input = ArrayVec::<u8, MOST>::new();
+    // `as`: no u64 is From<usize>.
     io::copy(&mut from.take(MOST as u64), &mut input)?;
     let mut out = [0u8; 16384];
     let said = program::say(&input, &mut out);

@@ -20,11 +20,11 @@ use Rattle.answer.specs.Answer.{Answer, number, done, clean, in_chips, in_card, 
 use Rattle.answer.proofs.Gives.{Outcomes, was_done, was_refused, Readings, was_clean, was_in_chips, was_in_card, was_several, not_read}
 use Rattle.answer.proofs.Gives.{Reports, were_counted, not_counted, numbered, number_of}
 use Rattle.capi.specs.Codes.{packed, packed_totals, code, number_in, kind_in, card_in, n_in, clean_in, chips_in, cards_in, none_in, several_in}
-use Rattle.registers.specs.declared.Value.{Value}
-use Rattle.registers.specs.declared.Value.TheVariants.{Byte, Refused}
+use Rattle.registers.specs.Write.{Value}
+use Rattle.registers.specs.Write.{Byte, Refused}
 use Rattle.window.specs.Plain.{proposal_number}
-use Rattle.window.specs.declared.Proposal.{Proposal}
-use Rattle.window.specs.declared.Proposal.TheVariants.{Chip, Nothing, Refused as RefusedWith}
+use Rattle.window.specs.Window.{Proposal}
+use Rattle.window.specs.Window.{Chip, Nothing, Refused as RefusedWith}
 use Rattle.capi.specs.Codes.{value_code, byte_in, value_in, proposal_code, chip_in, proposal_in}
 use Rattle.capi.specs.Codes.{by_number, corrected_as, refused_as, outcome_in, reading_in, report_in}
 

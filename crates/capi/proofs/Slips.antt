@@ -15,16 +15,17 @@ use native.Mathlib.Omega.{arith}
 use borrow.Author.Tests.{eq-eqb, ne_eqb}
 use Rattle.answer.specs.Answer.{Answer, done, clean, in_chips, in_card, counted, refused, refused_card}
 use Rattle.answer.proofs.Gives.{Readings, was_clean, was_in_chips, was_in_card, was_several, not_read}
-use Rattle.base.proofs.Tests.{same}
+use Rattle.std.proofs.lemmas.Bool.{cases_eq}
 use Rattle.reading.specs.Reading.{reading_answer}
 use Rattle.reading.specs.declared.Kind.TheVariants.{OneCard}
-use Rattle.reading.specs.declared.Reading.TheVariants.{Corrected, Several}
+use Rattle.std.specs.Prelude.{Ok, Err}
+use Rattle.reading.specs.declared.Fault.TheVariants.{Several}
 use Rattle.slip.specs.Slip.{HasSlip}
 use Rattle.slip.specs.Fit.{WroteFits, FoundFits}
-use Rattle.slip.specs.declared.Wrote.{Wrote}
-use Rattle.slip.specs.declared.Wrote.TheVariants.{Next, Refused as NotWritten}
-use Rattle.slip.specs.declared.Found.{Found}
-use Rattle.slip.specs.declared.Found.TheVariants.{Slip, Refused as RefusedAt}
+use Rattle.slip.specs.Wrote.{Wrote}
+use Rattle.slip.specs.Wrote.{Next, Refused as NotWritten}
+use Rattle.slip.specs.Found.{Found}
+use Rattle.slip.specs.Found.{Slip, Refused as RefusedAt}
 use Rattle.capi.specs.Codes.{code, number_in, kind_in, card_in, n_in, by_number, corrected_as, refused_as, reading_in, asked_in}
 use Rattle.capi.specs.Codes.{wrote_code, found_code, length_in, block_in, answer_code_in, wrote_in, FoundIn, packed}
 use Rattle.capi.proofs.Codes.{reading_back, reading_fits}
@@ -43,13 +44,13 @@ join_back c h =
 
 -- ---- the reading that the parts of a code tell
 module _ (c : ℕ) (fits : c < 2 ^ 32) where
-  parts : reading_in c ≡ by_number (c % 256) (corrected_as (c / 256 % 256) (c / 65536 % 256) (c / 16777216)) (refused_as (c % 256) (c / 65536 % 256))
+  parts : reading_in c ≡ by_number (c % 256) (corrected_as (c / 256 % 256) (c / 65536 % 256) (c / 16777216 % 256)) (refused_as (c % 256) (c / 65536 % 256))
   unfolding reading_in
   parts =
       let p : number_in c ≡ c % 256 = omega arith in
       let q : kind_in c ≡ c / 256 % 256 = omega arith in
       let r : card_in c ≡ c / 65536 % 256 = omega arith in
-      let s : n_in c ≡ c / 16777216 = omega arith in
+      let s : n_in c ≡ c / 16777216 % 256 = omega arith in
       ap₂ (λ (x y : ℕ). by_number x (corrected_as (kind_in c) y (n_in c)) (refused_as x y)) p r
       ∙ ap₂ (λ (x y : ℕ). by_number (c % 256) (corrected_as x (c / 65536 % 256) y) (refused_as (c % 256) (c / 65536 % 256))) q s
 
@@ -65,11 +66,11 @@ module _ (c : ℕ) (fits : c < 2 ^ 32) where
   unfolding by_number corrected_as
   told_clean e f = sym (parts ∙ simp (e, f))
 
-  pub told_chips : c % 256 ≡ 0 → c / 256 % 256 ≡ 1 → in_chips (c / 16777216) ≡ reading_in c
+  pub told_chips : c % 256 ≡ 0 → c / 256 % 256 ≡ 1 → in_chips (c / 16777216 % 256) ≡ reading_in c
   unfolding by_number corrected_as
   told_chips e f = sym (parts ∙ simp (e, f))
 
-  pub told_card : c % 256 ≡ 0 → c / 256 % 256 ≢ 0 → c / 256 % 256 ≢ 1 → in_card (c / 65536 % 256) (c / 16777216) ≡ reading_in c
+  pub told_card : c % 256 ≡ 0 → c / 256 % 256 ≢ 0 → c / 256 % 256 ≢ 1 → in_card (c / 65536 % 256) (c / 16777216 % 256) ≡ reading_in c
   unfolding by_number corrected_as
   told_card e f g = sym (parts ∙ simp (e, ne_eqb (c / 256 % 256) 0 f, ne_eqb (c / 256 % 256) 1 g))
 
@@ -98,7 +99,7 @@ asked_back k a h =
     asked_some (code a) (ap code e) ∙ e
 
 pub asked_code : (k c : ℕ) → HasSlip k (asked_in c) → code (asked_in c) ≡ c
-asked_code k c h = go (same (code (reading_in c)) c)
+asked_code k c h = go (cases_eq (code (reading_in c)) c)
   where
     go : (code (reading_in c) ≡ c) ⊎ (code (reading_in c) ≢ c) → code (asked_in c) ≡ c
     go (inl e) = ap code (asked_some c e) ∙ e
@@ -134,8 +135,8 @@ wrote_back i (NotWritten n) h = go h
         not_as i n (λ z. (small w).0 (sym e ∙ z)) ∙ ap NotWritten e
 
 -- ---- a slip read
-pub found_layout : (found_code 10 (Slip 259 (Corrected (OneCard 4 11)) 16) ≡ 0x0B04020001030600)
-    × (found_code 10 (Slip 1023 (Several 3) 15) ≡ 0x0003000B03FF0500) × (found_code 10 (RefusedAt 15 12) ≡ 0x000000000000000F)
+pub found_layout : (found_code 10 (Slip 259 (Ok (OneCard 4 11)) 16) ≡ 0x0B04020001030600)
+    × (found_code 10 (Slip 1023 (Err (Several 3)) 15) ≡ 0x0003000B03FF0500) × (found_code 10 (RefusedAt 15 12) ≡ 0x000000000000000F)
     × (found_code 10 (RefusedAt 16 12) ≡ 0x0000000000000210)
 found_layout = (refl, refl, refl, refl)
 

@@ -30,23 +30,23 @@ use Rattle.store.specs.Store.{StoreDone}
 use Rattle.block.specs.Read.{ReadDone}
 use Rattle.window.specs.Window.{fresh_window, proposal}
 use Rattle.window.specs.Plain.{ProposedExactly}
-use Rattle.window.specs.declared.Proposal.{Proposal}
-use Rattle.window.specs.declared.Proposal.TheVariants.{Chip, Nothing, Refused as RefusedWith}
+use Rattle.window.specs.Window.{Proposal}
+use Rattle.window.specs.Window.{Chip, Nothing, Refused as RefusedWith}
 use Rattle.window.proofs.Proposed.{proposed_exactly}
 use Rattle.bank.specs.Calls.{ClearDone, PutDone, GetDone, PatrolDone, ReportDone, get_cause, patrol_cause}
 use Rattle.bank.proofs.Gives.{clear_gives, put_gives, get_gives, patrol_gives, report_gives}
 use Rattle.registers.specs.Registers.{registers_in, is_set, raised}
 use Rattle.registers.specs.Write.{command_of, Runs, write_cause, WriteDone, read_value}
 use Rattle.registers.specs.Plain.{answer_in}
-use Rattle.registers.specs.declared.Value.TheVariants.{Byte, Refused}
+use Rattle.registers.specs.Write.{Byte, Refused}
 use Rattle.registers.proofs.Plain.{raised_exactly, bytes_back}
 use Rattle.registers.proofs.Leaves.{commands_leave}
 use Rattle.registers.proofs.Formed.{write_gives}
-use Rattle.reading.specs.declared.Reading.{Reading}
+use Rattle.reading.specs.Reading.{Reading}
 use Rattle.slip.specs.Slip.{HasSlip}
 use Rattle.slip.specs.Calls.{WriteSlipDone, ReadSlipDone}
-use Rattle.slip.specs.declared.Found.{Found}
-use Rattle.slip.specs.declared.Found.TheVariants.{Slip, Refused as RefusedAt}
+use Rattle.slip.specs.Found.{Found}
+use Rattle.slip.specs.Found.{Slip, Refused as RefusedAt}
 use Rattle.slip.proofs.Fit.{write_fits, read_fits}
 use Rattle.slip.proofs.Decided.{reading_one}
 use Rattle.slip.proofs.Readings.{get_has_slip, patrol_has_slip}

@@ -1,32 +1,36 @@
 -- The bytes after placing or lifting a mark, and after a register write, as the code leaves them.
 --
+--   refusal_coded   the code of a refusal is not 0
 --   accepted    a code of 0 is given only where nothing is refused
 --   four        then the bytes were four
---   written     the bytes of the new record, copied over them (written_whole: by a copy of the whole); left: on a refusal nothing is written
+--   whole_says  the bytes of the new record, copied over them; left_says: on a refusal nothing is written
 --   marked_done what is said of the bytes is what the library says of the record in them
 --   write_back, write_left    a register write: the bytes of the registers after it; on a refusal nothing is written
 --   write_done  what is said of the twelve bytes is what the library says of the registers in them
 use Prim.Native.Nat.{ℕ, zero, suc}
 use mathlib.Core.Logic.{◌≢◌, by_cases}
-use mathlib.Core.Path.{◌≡◌, refl, sym, ap, ap₂, ◌∙◌, subst}
-use mathlib.Core.List.{List, ◌++◌, append-nil}
+use mathlib.Core.Path.{◌≡◌, refl, sym, ap, ◌∙◌, subst}
+use mathlib.Core.List.{List}
 use native.Mathlib.Decide.{ℕ_discrete}
 use native.Mathlib.Omega.{arith}
-use lib.ListN.{length, take, drop}
-use lib.Seq.{take-length, drop-length}
-use Rattle.answer.specs.Answer.{Answer, done, By}
-use Rattle.answer.proofs.Causes.{by_done, by_map}
+use lib.ListN.{length}
+use Rattle.answer.specs.Answer.{Answer, done, refused, By, refusal_number}
+use Rattle.answer.specs.declared.Refusal.{Refusal}
+use Rattle.answer.proofs.Causes.{by_done, by_map, number_given}
 use Rattle.marks.specs.Marks.{bytes, marks_in}
 use Rattle.marks.specs.Mark.{marked, mark_cause, MarkDone}
 use Rattle.marks.specs.declared.Marks.{Marks}
 use Rattle.marks.specs.declared.MarkCall.{MarkCall}
-use Rattle.marks.proofs.Laws.{lawful_cause, four_long, marks_in_bytes, marks_in_other, can, mark_done, marked_lawful}
+use Rattle.marks.proofs.Laws.{lawful_cause, marks_in_bytes, marks_in_other, can, mark_done, marked_lawful}
 use Rattle.registers.specs.Registers.{register_bytes, registers_in}
 use Rattle.registers.specs.Write.{write_cause, WriteDone}
 use Rattle.registers.specs.declared.Registers.{Registers}
 use Rattle.registers.proofs.Formed.{Formed, formed_back, formed_in, write_formed}
 use Rattle.capi.specs.Codes.{code}
-use Rattle.capi.specs.Exports.{Marked, MarkCoded, RegisterWritten, WriteCoded}
+use Rattle.capi.specs.Exports.{Marked, RegisterWritten}
+
+pub refusal_coded : (e : Refusal) → code (refused (refusal_number e)) ≢ 0
+refusal_coded e z = number_given e (omega (arith, z))
 
 pub accepted : (n : ℕ) (a : Answer) (U D : Type 0) → By n a U D → code a ≡ 0 → n ≡ 0
 accepted zero a U D w e = refl
@@ -46,27 +50,17 @@ module _ (b : List ℕ) (call : MarkCall) (m : Marks) (a : Answer) (m' : Marks) 
   four z = by_cases (ℕ_discrete (length b) 4) (λ e. e)
       (λ n. absurd (omega (arith, marks_in_other b n, lawful_cause (marks_in b) (can (marks_in b) call (no_cause z)).lawful)))
 
-  pub written_whole : c ≡ 0 → (new b' : List ℕ) → new ≡ bytes m' → b' ≡ new → MarkCoded b call c b'
-  written_whole z new b' h w = record { answer = a; says = by_done _ a _ _ (no_cause z) (d.0, w ∙ h ∙ ap bytes d.1); coded = coded }
+  pub whole_says : c ≡ 0 → (new b' : List ℕ) → new ≡ bytes m' → b' ≡ new → Marked b call a b'
+  whole_says z new b' h w = by_done _ a _ _ (no_cause z) (d.0, w ∙ h ∙ ap bytes d.1)
     where
       d : (a ≡ done) × (m' ≡ marked (marks_in b) call)
       d = mark_done (marks_in b) call a m' (no_cause z) on_bytes
 
-  pub written : c ≡ 0 → (new b' : List ℕ) → new ≡ bytes m' → b' ≡ take (length new) new ++ drop (length new) b → MarkCoded b call c b'
-  written z new b' h w = written_whole z (bytes m') b' refl copied
-    where
-      copied : b' ≡ bytes m'
-      copied =
-          w ∙ ap₂ ◌++◌ (take-length new ∙ h) (ap (λ (k : ℕ). drop k b) (ap length h ∙ four_long m' ∙ sym (four z)) ∙ drop-length b) ∙ append-nil (bytes m')
-
-  pub left : c ≢ 0 → MarkCoded b call c b
+  pub left_says : c ≢ 0 → Marked b call a b
   unfolding MarkDone
-  left ne = record {
-    answer = a;
-    says = by_map (mark_cause (marks_in b) call) a (m' ≡ marks_in b) ((a ≡ done) × (m' ≡ marked (marks_in b) call)) (b ≡ b) _ (λ u. refl)
-        (λ z d. absurd (ne (coded ∙ ap code d.0))) on_bytes;
-    coded = coded;
-  }
+  left_says ne =
+      by_map (mark_cause (marks_in b) call) a (m' ≡ marks_in b) ((a ≡ done) × (m' ≡ marked (marks_in b) call)) (b ≡ b) _ (λ u. refl)
+      (λ z d. absurd (ne (coded ∙ ap code d.0))) on_bytes
 
 pub marked_done : (b : List ℕ) (call : MarkCall) (a : Answer) (b' : List ℕ) → Marked b call a b' → MarkDone (marks_in b) call a (marks_in b')
 unfolding MarkDone
@@ -80,21 +74,15 @@ module _ (b : List ℕ) (a v : ℕ) (bank out win : List ℕ) (r : Registers) (x
   on_registers : WriteDone (registers_in b) a v bank out win x r' bank' out' win'
   on_registers = subst (λ (s : Registers). WriteDone s a v bank out win x r' bank' out' win') in_bytes said
 
-  pub write_back : c ≡ 0 → (b' : List ℕ) → b' ≡ register_bytes r' → WriteCoded b a v bank out win c b' bank' out' win'
+  pub write_back : c ≡ 0 → (b' : List ℕ) → b' ≡ register_bytes r' → RegisterWritten b a v bank out win x b' bank' out' win'
   unfolding WriteDone
-  write_back z b' e = record {
-    answer = x;
-    says = (r', on_registers, by_done _ x _ _ (accepted (write_cause (registers_in b) a v) x _ _ on_registers (sym coded ∙ z)) e);
-    coded = coded;
-  }
+  write_back z b' e =
+      (r', on_registers, by_done _ x _ _ (accepted (write_cause (registers_in b) a v) x _ _ on_registers (sym coded ∙ z)) e)
 
-  pub write_left : c ≢ 0 → WriteCoded b a v bank out win c b bank' out' win'
+  pub write_left : c ≢ 0 → RegisterWritten b a v bank out win x b bank' out' win'
   unfolding WriteDone
-  write_left ne = record {
-    answer = x;
-    says = (r', on_registers, by_map (write_cause (registers_in b) a v) x _ _ (b ≡ b) _ (λ u. refl) (λ z d. absurd (ne (coded ∙ ap code d.0))) on_registers);
-    coded = coded;
-  }
+  write_left ne =
+      (r', on_registers, by_map (write_cause (registers_in b) a v) x _ _ (b ≡ b) _ (λ u. refl) (λ z d. absurd (ne (coded ∙ ap code d.0))) on_registers)
 
 -- the registers after it are those in the bytes after it
 pub write_done : (b : List ℕ) (a v : ℕ) (bank out win : List ℕ) (x : Answer) (b' bank' out' win' : List ℕ)

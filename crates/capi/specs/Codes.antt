@@ -19,15 +19,15 @@
 --   asked_in    the reading that the code handed to the writer is the code of
 use Rattle.std.specs.Prelude.{◌≡◌, ◌≢◌, ℕ, ◌+◌, ◌-◌, ◌*◌, ◌/◌, ◌%◌, ◌^◌, eqb}
 use Rattle.base.specs.Base.{if}
-use Rattle.window.specs.declared.Proposal.{Proposal}
-use Rattle.window.specs.declared.Proposal.TheVariants.{Chip, Nothing, Refused as RefusedWith}
-use Rattle.registers.specs.declared.Value.{Value}
-use Rattle.registers.specs.declared.Value.TheVariants.{Byte, Refused}
+use Rattle.window.specs.Window.{Proposal}
+use Rattle.window.specs.Window.{Chip, Nothing, Refused as RefusedWith}
+use Rattle.registers.specs.Write.{Value}
+use Rattle.registers.specs.Write.{Byte, Refused}
 use Rattle.reading.specs.Reading.{reading_answer}
-use Rattle.slip.specs.declared.Wrote.{Wrote}
-use Rattle.slip.specs.declared.Wrote.TheVariants.{Next, Refused as NotWritten}
-use Rattle.slip.specs.declared.Found.{Found}
-use Rattle.slip.specs.declared.Found.TheVariants.{Slip, Refused as RefusedAt}
+use Rattle.slip.specs.Wrote.{Wrote}
+use Rattle.slip.specs.Wrote.{Next, Refused as NotWritten}
+use Rattle.slip.specs.Found.{Found}
+use Rattle.slip.specs.Found.{Slip, Refused as RefusedAt}
 use Rattle.answer.specs.Answer.{Answer, done, clean, in_chips, in_card, counted, refused, refused_card}
 
 -- ---- the code of an answer

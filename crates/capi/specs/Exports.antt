@@ -20,13 +20,13 @@ use Rattle.store.specs.Store.{StoreDone}
 use Rattle.block.specs.Read.{ReadDone}
 use Rattle.bank.specs.Calls.{ClearDone, PutDone, GetDone, PatrolDone, ReportDone}
 use Rattle.window.specs.Window.{ClearWindowDone, ProposeDone}
-use Rattle.window.specs.declared.Proposal.{Proposal}
+use Rattle.window.specs.Window.{Proposal}
 use Rattle.registers.specs.Registers.{register_bytes, registers_in, raised}
 use Rattle.registers.specs.Write.{write_cause, WriteDone, read_value}
 use Rattle.registers.specs.declared.Registers.{Registers}
 use Rattle.slip.specs.Calls.{WriteSlipDone, ReadSlipDone}
-use Rattle.slip.specs.declared.Wrote.{Wrote}
-use Rattle.slip.specs.declared.Found.{Found}
+use Rattle.slip.specs.Wrote.{Wrote}
+use Rattle.slip.specs.Found.{Found}
 use Rattle.capi.specs.Codes.{code, value_code, proposal_code, wrote_code, found_code, asked_in}
 
 pub record Coded (Says : Answer → Type 0) (c : ℕ) : Type 0 where

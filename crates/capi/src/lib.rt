@@ -6,10 +6,13 @@
 
 mod encode;
 
+ghost use Rattle.answer.specs.Answer.{outcome_answer};
+ghost use Rattle.capi.specs.Exports.{Marked, RegisterWritten};
 ghost use Rattle.capi.specs.Exports.{StoreCoded, ReadCoded, ClearCoded, PutCoded, GetCoded, PatrolCoded, ReportCoded, MarkCoded};
 ghost use Rattle.capi.specs.Exports.{WriteCoded, RegisterCoded, InterruptCoded, ClearWindowCoded, ProposeCoded, WriteSlipCoded, ReadSlipCoded};
 ghost use Rattle.marks.specs.declared.MarkCall.TheVariants.{PlaceChip, LiftChip, PlaceCard, LiftCard};
 
+use answer::Refusal;
 use marks::MarkCall;
 
 #[unsafe(no_mangle)]
@@ -66,23 +69,25 @@ pub extern "C" fn livomashen_report(bank: &[u8], m: &[u8]) -> u64
     ensures { ReportCoded bank.now m.now result bank.now m.now }
 {
     match bank::report(bank, marks::from_slice(m)) {
-        bank::Reported::Counted(t) => encode::of_totals(t),
-        bank::Reported::Refused(n) => n as u64,
+        Ok(totals) => encode::of_totals(totals),
+        Err(refusal) => u64::from(refusal.number()),
     }
 }
 
-// Places or lifts a mark, and writes the record back where that is done. It was lawful then, so the bytes are four.
+// Places or lifts a mark in the bytes of a record, which are written where that is done. It was lawful then, so the bytes are four.
+fn mark_bytes(m: &mut [u8], call: MarkCall) -> Result<(), Refusal>
+    ensures { Marked m.old call (outcome_answer result) m.new }
+{
+    let mut record = marks::from_slice(m);
+    marks::mark(&mut record, call)?;
+    m.copy_from_slice(&marks::to_bytes(record));
+    Ok(())
+}
+
 fn mark(m: &mut [u8], call: MarkCall) -> u32
     ensures { MarkCoded m.old call result m.new }
 {
-    let r = marks::mark(marks::from_slice(m), call);
-    let answer = r.answer;
-    let after = r.marks;
-    let c = encode::of_outcome(answer);
-    if c == 0 {
-        m.copy_from_slice(&marks::to_bytes(after));
-    }
-    c
+    encode::of_outcome(mark_bytes(m, call))
 }
 
 #[unsafe(no_mangle)]
@@ -113,7 +118,24 @@ pub extern "C" fn livomashen_lift_card(m: &mut [u8]) -> u32
     mark(m, MarkCall::LiftCard)
 }
 
-// Writes a register, by its address, in twelve lent bytes, which a refused write leaves alone.
+// Writes a register, by its address, in twelve bytes, which a refused write leaves alone.
+fn write_bytes(
+    r: &mut [u8; 12],
+    a: u32,
+    v: u8,
+    bank: &mut [u8],
+    out: &mut [u8],
+    w: &mut [u8; 64],
+) -> Result<(), Refusal>
+    ensures { RegisterWritten r.old a v bank.old out.old w.old (outcome_answer result) r.new bank.new out.new
+        w.new }
+{
+    let mut registers = registers::from_bytes(r);
+    registers::write(&mut registers, a, v, bank, out, w)?;
+    *r = registers::to_bytes(registers);
+    Ok(())
+}
+
 #[unsafe(no_mangle)]
 pub extern "C" fn livomashen_write_register(
     r: &mut [u8; 12],
@@ -126,15 +148,7 @@ pub extern "C" fn livomashen_write_register(
     ensures { WriteCoded r.old a v bank.old out.old w.old result r.new bank.new out.new
         w.new }
 {
-    let written = registers::write(registers::from_bytes(r), a, v, bank, out, w);
-    let answer = written.answer;
-    let after = written.registers;
-    let c = encode::of_outcome(answer);
-    if c != 0 {
-        return c;
-    }
-    *r = registers::to_bytes(after);
-    c
+    encode::of_outcome(write_bytes(r, a, v, bank, out, w))
 }
 
 // Reads a register, by its address.
@@ -150,10 +164,7 @@ pub extern "C" fn livomashen_read_register(r: &[u8; 12], a: u32) -> u32
 pub extern "C" fn livomashen_interrupt(r: &[u8; 12]) -> u32
     ensures { InterruptCoded r.now result r.now }
 {
-    if registers::interrupt(registers::from_bytes(r)) {
-        return 1;
-    }
-    0
+    u32::from(registers::interrupt(registers::from_bytes(r)))
 }
 
 // Makes a window hold nothing.
@@ -161,7 +172,8 @@ pub extern "C" fn livomashen_interrupt(r: &[u8; 12]) -> u32
 pub extern "C" fn livomashen_clear_window(w: &mut [u8; 64]) -> u32
     ensures { ClearWindowCoded result w.new }
 {
-    encode::of_outcome(window::clear(w))
+    window::clear(w);
+    encode::of_outcome(Ok(()))
 }
 
 // The chip that the window proposes to mark.
@@ -179,7 +191,7 @@ pub extern "C" fn livomashen_write_slip(slips: &mut [u8], at: usize, k: usize, a
 {
     let r = encode::reading_in(answer);
     if encode::of_reading(r) != answer {
-        return 16;
+        return u32::from(Refusal::NoSuchSlip.number());
     }
     encode::of_wrote(at, slip::write(slips, at, k, r))
 }

@@ -1,32 +1,34 @@
 -- The positions that a change changes, lowest first.
 --
---   adds_listed        those that it adds something to; differing_adds: so that is where a block differs from the block after it
+--   differing_adds     those that it adds something to are where a block differs from the block after it
 --   places_listed      of a well-formed change with p not above q they are its places
---   same_adds, ordered_formed, ordered_is   the change in order adds the same, is well formed too, and has p not above q
+--   turned_is, kept_is, ordered_listed   the change in order has p not above q, and its places are those that differ
 --   listed_end         the code's list is that of the places, and so of the positions that differ
---   pushed, not_pushed a position after the first n; rows_more: one row more; one_side: it stands before the card or after it
---   five_places        the parts put together
+--   filled_is          what is pushed into none; pushed_both: l and then k
+--   rows_none, no_rows, rows_more   the rows of a card, one more at a time
+--   one_more, nine_more   how many there are then
+--   room_again, room_last, all_pushed   the five parts of a change put together, and that there is room for them
 use mathlib.Core.Logic.{◌≢◌, ◌⊎◌, inl, inr}
-use mathlib.Core.Path.{◌≡◌, refl, sym, ap, ap₂, ◌∙◌}
+use mathlib.Core.Path.{◌≡◌, refl, sym, ap, ap₂, ◌∙◌, subst}
 use mathlib.Core.Bool.{Bool, true, false, ◌&&◌, ◌||◌, not}
 use mathlib.Core.List.{List, [], ◌++◌, append_assoc, append-nil}
 use Prim.Native.Nat.{ℕ, ◌+◌, ◌-◌, ◌*◌, ◌/◌, ◌%◌, ◌<◌, ◌≤◌}
 use native.Mathlib.Nat.{zero-add as nothing_add}
-use native.Mathlib.Numerals.{add-one}
 use native.Mathlib.Omega.{arith}
 use lib.Dec.{eqb, leb, ltb}
-use lib.ListN.{length, take, drop, replicate, set, get_or, take-append-drop}
-use lib.Seq.{take-suc-set, drop-set-lt, drop-drop, length-take-le, take-append_seam}
-use borrow.Author.Tests.{eq-eqb, ne_eqb, lt-ltb, le-ltb, le-leb, lt-leb, ltb-true, leb-true}
+use lib.ListN.{length, length-append, drop, replicate, get_or, take-append-drop}
+use lib.Seq.{drop-drop, take-append_seam}
+use borrow.Author.Tests.{eq-eqb, ne_eqb, lt-ltb, le-ltb, le-leb, lt-leb}
 use Rattle.base.specs.Base.{if, bit, only, those}
-use Rattle.base.proofs.Lists.{drop_replicate}
-use Rattle.base.proofs.Tests.{same, lt_or_le, or_no}
-use Rattle.base.proofs.Those.{those_ext, those_none, those_split, those_snoc, two_listed, between, within, between_in, between_out}
-use Rattle.base.proofs.Tally.{one_le}
+use Rattle.std.proofs.lemmas.List.{drop-replicate}
+use Rattle.std.proofs.lemmas.Bool.{cases_eq, cases_lt}
+use Rattle.base.proofs.Tests.{or_no}
+use Rattle.base.proofs.Those.{those_ext, those_none, those_split, those_snoc, those_length, only_length, two_listed, between, within, between_in, between_out}
+use Rattle.base.proofs.Tally.{at_most, one_le}
 use Rattle.field.specs.Field.{◌⊕◌}
 use Rattle.field.proofs.Xor.{add_zero, zero_add, add_self, sums}
 use Rattle.code.specs.Block.{differing}
-use Rattle.change.specs.Change.{adds, applied, nonzero, nonzero_at, WellFormed, before, after, row_test, places, ordered, positions, filled, Listed}
+use Rattle.change.specs.Change.{adds, applied, nonzero, nonzero_at, WellFormed, before, after, row_test, places, ordered, positions, filled, Listed, Pushed}
 use Rattle.change.specs.declared.Change.{Change}
 use Rattle.change.specs.declared.Positions.{Positions}
 use Rattle.change.proofs.Weight.{zero_not, on_card, off_card, test_is}
@@ -45,7 +47,7 @@ module _ (d : Change) (w : WellFormed d) (o : d.p ≤ d.q) where
 
   -- ---- off the card
   off : (r : ℕ) → r / 9 ≢ d.card → test r ≡ (eqb r d.p && nonzero d.e) || (eqb r d.q && nonzero d.f)
-  off r h = ap nonzero (off_card d w r h) ∙ both (same r d.p) (same r d.q) w.second
+  off r h = ap nonzero (off_card d w r h) ∙ both (cases_eq r d.p) (cases_eq r d.q) w.second
     where
       both : (r ≡ d.p) ⊎ (r ≢ d.p) → (r ≡ d.q) ⊎ (r ≢ d.q) → (d.f ≡ 0) ⊎ ((d.q < 45) × (d.q / 9 ≢ d.card) × (d.q ≢ d.p))
           → nonzero (if (eqb r d.p) d.e 0 ⊕ if (eqb r d.q) d.f 0) ≡ (eqb r d.p && nonzero d.e) || (eqb r d.q && nonzero d.f)
@@ -69,7 +71,7 @@ module _ (d : Change) (w : WellFormed d) (o : d.p ≤ d.q) where
   -- and after it
   last : (p e : ℕ) → (e ≡ 0) ⊎ ((p < 45) × (p / 9 ≢ d.card)) → within (start + 9) (36 - start) (nonzero e) p ≡ after d.card p e
   last p e (inl z) = rw (zero_not e z) refl
-  last p e (inr (l, n)) = ap (λ (t : Bool). only (nonzero e && t) p) (pick (lt_or_le p start))
+  last p e (inr (l, n)) = ap (λ (t : Bool). only (nonzero e && t) p) (pick (cases_lt p start))
     where
       pick : (p < start) ⊎ (start ≤ p) → between (start + 9) (36 - start) p ≡ leb start p
       pick (inl h) = between_out (start + 9) (36 - start) p (inl (omega arith)) ∙ sym (lt-leb start p h)
@@ -140,7 +142,7 @@ unfolding ordered
 kept_is d h = rw (le-ltb d.q d.p h) refl
 
 pub ordered_listed : (d : Change) → WellFormed d → places (ordered d) ≡ those 0 45 (λ r. nonzero (adds d r))
-ordered_listed d w = go (lt_or_le d.q d.p)
+ordered_listed d w = go (cases_lt d.q d.p)
   where
     go : (d.q < d.p) ⊎ (d.p ≤ d.q) → places (ordered d) ≡ those 0 45 (λ r. nonzero (adds d r))
     go (inl h) =
@@ -148,16 +150,19 @@ ordered_listed d w = go (lt_or_le d.q d.p)
         ∙ those_ext 45 0 _ _ (λ r a b. ap nonzero (turned_adds d r))
     go (inr h) = ap places (sym (kept_is d h)) ∙ places_listed d w h
 
--- the first n of eleven bytes are l, and the others zeros
-pub filled_is : (at l : List ℕ) (n : ℕ) → length at ≡ 11 → n ≤ 11 → take n at ≡ l → drop n at ≡ drop n (replicate 11 0)
-    → ◌≡◌ {A = Positions} (record { count = n; at = at }) (filled l)
-filled_is at l n a h e f = ap₂ (λ (c : ℕ) (x : List ℕ). record { count = c; at = x }) many (sym (take-append-drop n at) ∙ ap₂ (λ (x y : List ℕ). x ++ y) e rest)
-  where
-    many : n ≡ length l
-    many = sym (length-take-le n at (omega arith)) ∙ ap length e
+-- none yet
+abbrev pub no_positions : Positions
+no_positions = record { count = 0; at = replicate 11 0 }
 
-    rest : drop n at ≡ replicate (11 - length l) 0
-    rest = f ∙ drop_replicate n 11 0 ∙ ap (λ (k : ℕ). replicate (11 - k) 0) many
+-- what is pushed into none are the first of eleven bytes, and the others are zeros
+pub filled_is : (l : List ℕ) (ps : Positions) → Pushed l no_positions ps → ps.count ≤ 11 → ps ≡ filled l
+filled_is l ps w a = ap₂ (λ (c : ℕ) (x : List ℕ). record { count = c; at = x }) many (sym (take-append-drop ps.count ps.at) ∙ ap₂ (λ (x y : List ℕ). x ++ y) w.held rest)
+  where
+    many : ps.count ≡ length l
+    many = omega (arith, w.count)
+
+    rest : drop ps.count ps.at ≡ replicate (11 - length l) 0
+    rest = w.behind ∙ drop-replicate ps.count 11 0 ∙ ap (λ (k : ℕ). replicate (11 - k) 0) many
 
 pub filled_positions : (l : List ℕ) → positions (filled l) ≡ l
 filled_positions l = take-append_seam l (replicate (11 - length l) 0)
@@ -169,42 +174,43 @@ listed_end d ps e = record {
 }
 
 -- ---- as the code lists them
-module _ (at : List ℕ) (n : ℕ) where
-  pub free : (t : Bool) → t ≡ true → n + bit t ≤ length at → n < length at
-  free t e h = let one : bit t ≡ 1 = ap bit e in omega (arith, one)
-
-  pub pushed : (p : ℕ) (t : Bool) → t ≡ true → n + bit t ≤ length at
-      → (n + 1 ≡ n + bit t) × (take (n + 1) (set at n p) ≡ take n at ++ only t p) × (drop (n + 1) (set at n p) ≡ drop (n + 1) at)
-  pushed p t e h = rw e (refl, ap (λ (k : ℕ). take k (set at n p)) (add-one n) ∙ take-suc-set at n p (free t e h), drop-set-lt (n + 1) at n p (omega arith))
-
-  pub not_pushed : (p : ℕ) (t : Bool) → t ≡ false → (n ≡ n + bit t) × (take n at ≡ take n at ++ only t p) × (drop n at ≡ drop n at)
-  not_pushed p t e = rw e (omega arith, sym (append-nil (take n at)), refl)
-
--- what is alike from n on is alike from m on
-pub further_on : (k l : List ℕ) (n m : ℕ) → n ≤ m → drop n k ≡ drop n l → drop m k ≡ drop m l
-further_on k l n m h e =
-    let q : m ≡ n + (m - n) = omega arith in
-    ap (λ (j : ℕ). drop j k) q ∙ sym (drop-drop (m - n) n k) ∙ ap (drop (m - n)) e ∙ drop-drop (m - n) n l ∙ ap (λ (j : ℕ). drop j l) (sym q)
+-- l, and then k
+pub pushed_both : (l k : List ℕ) (ps qs rs : Positions) → Pushed l ps qs → Pushed k qs rs → Pushed (l ++ k) ps rs
+pushed_both l k ps qs rs v w = record {
+  count = omega (arith, v.count, w.count, length-append l k);
+  held = w.held ∙ ap (λ (x : List ℕ). x ++ k) v.held ∙ append_assoc (positions ps) l k;
+  behind = w.behind ∙ further_on qs.at ps.at qs.count rs.count (omega (arith, w.count)) v.behind;
+  long = w.long ∙ v.long;
+}
+  where
+    -- what is alike from n on is alike from m on
+    further_on : (x y : List ℕ) (n m : ℕ) → n ≤ m → drop n x ≡ drop n y → drop m x ≡ drop m y
+    further_on x y n m h e =
+        let q : m ≡ n + (m - n) = omega arith in
+        ap (λ (j : ℕ). drop j x) q ∙ sym (drop-drop (m - n) n x) ∙ ap (drop (m - n)) e ∙ drop-drop (m - n) n y ∙ ap (λ (j : ℕ). drop j y) (sym q)
 
 -- ---- the rows
 -- no row is passed yet
-pub rows_none : (l : List ℕ) (j : ℕ) (z : List ℕ) → l ≡ l ++ those (9 * j) 0 (row_test z)
+pub rows_none : (ps : Positions) (j : ℕ) (z : List ℕ) → Pushed (those (9 * j) 0 (row_test z)) ps ps
 unfolding those
-rows_none l j z = sym (append-nil l)
+rows_none ps j z = record { count = omega arith; held = sym (append-nil (positions ps)); behind = refl; long = refl }
 
 -- a card that there isn't
-pub no_rows : (l : List ℕ) (j : ℕ) (z : List ℕ) → 4 < j → l ≡ l ++ those (9 * j) 9 (row_test z)
-no_rows l j z h =
-    let e = those_none 9 (9 * j) (row_test z) (λ i a b. ap (λ (t : Bool). t && nonzero_at z (i % 9)) (le-ltb i 45 (omega arith))) in
-    sym (ap (λ (k : List ℕ). l ++ k) e ∙ append-nil l)
+pub no_rows : (ps : Positions) (j : ℕ) (z : List ℕ) → 4 < j → Pushed (those (9 * j) 9 (row_test z)) ps ps
+no_rows ps j z h =
+    let e : those (9 * j) 9 (row_test z) ≡ [] = those_none 9 (9 * j) (row_test z) (λ i a b. ap (λ (t : Bool). t && nonzero_at z (i % 9)) (le-ltb i 45 (omega arith))) in
+    subst (λ (l : List ℕ). Pushed l ps ps) (sym e) (record { count = omega arith; held = sym (append-nil (positions ps)); behind = refl; long = refl })
+
+pub few_those : (n s : ℕ) (g : ℕ → Bool) → length (those s n g) ≤ n
+few_those n s g = at_most n (λ i. g (s + i)) (length (those s n g)) (those_length n s g)
 
 -- one row more
-pub rows_more : (l k m : List ℕ) (j : ℕ) (z : List ℕ) (i : ℕ) (t : Bool) → j < 5 → i < 9 → t ≡ nonzero_at z i → k ≡ l ++ those (9 * j) i (row_test z)
-    → m ≡ k ++ only t (9 * j + i) → m ≡ l ++ those (9 * j) (i + 1) (row_test z)
-rows_more l k m j z i t hj hi e f g =
-    g ∙ ap₂ (λ (x : List ℕ) (u : Bool). x ++ only u (9 * j + i)) f (e ∙ sym here)
-    ∙ append_assoc l (those (9 * j) i (row_test z)) (only (row_test z (9 * j + i)) (9 * j + i))
-    ∙ ap (λ (x : List ℕ). l ++ x) (sym (those_snoc i (9 * j) (row_test z)))
+pub rows_more : (ps qs rs : Positions) (j : ℕ) (z : List ℕ) (i : ℕ) (t : Bool) (p : ℕ) → j < 5 → i < 9 → t ≡ nonzero_at z i → p ≡ 9 * j + i
+    → Pushed (those (9 * j) i (row_test z)) ps qs → Pushed (only t p) qs rs → Pushed (those (9 * j) (i + 1) (row_test z)) ps rs
+rows_more ps qs rs j z i t p hj hi f g v w =
+    subst (λ (l : List ℕ). Pushed l ps rs)
+    (ap₂ (λ (u : Bool) (q : ℕ). those (9 * j) i (row_test z) ++ only u q) (f ∙ sym here) g ∙ sym (those_snoc i (9 * j) (row_test z)))
+    (pushed_both (those (9 * j) i (row_test z)) (only t p) ps qs rs v w)
   where
     row : (9 * j + i) % 9 ≡ i
     row = omega arith
@@ -213,24 +219,58 @@ rows_more l k m j z i t hj hi e f g =
     here = ap₂ (λ (s : Bool) (x : ℕ). s && nonzero_at z x) (lt-ltb (9 * j + i) 45 (omega arith)) row
 
 -- ---- before the card or after it
-bits_apart : (t s u : Bool) → (s ≡ true → u ≡ true → ⊥) → bit (t && s) + bit (t && u) ≤ 1
-bits_apart false s u h = omega arith
-bits_apart true false u h = omega (arith, one_le u)
-bits_apart true true true h = absurd (h refl refl)
-bits_apart true true false h = omega arith
+pub one_side : (e t : Bool) → bit (e && t) + bit (e && not t) ≤ 1
+one_side false t = omega arith
+one_side true true = omega arith
+one_side true false = omega arith
 
-pub one_side : (e p k : ℕ) (t u : Bool) → t ≡ nonzero e && ltb p k → u ≡ nonzero e && leb k p → bit t + bit u ≤ 1
-one_side e p k t u a b =
-    rw (a, b) (bits_apart (nonzero e) (ltb p k) (leb k p) (λ x y. let h = ltb-true p k x in let g = leb-true k p y in omega arith))
+-- what does not stand before the card stands after it
+pub after_is : (j p : ℕ) → not (ltb p (9 * j)) ≡ leb (9 * j) p
+after_is j p = go (cases_lt p (9 * j))
+  where
+    go : (p < 9 * j) ⊎ (9 * j ≤ p) → not (ltb p (9 * j)) ≡ leb (9 * j) p
+    go (inl h) = ap not (lt-ltb p (9 * j) h) ∙ sym (lt-leb (9 * j) p h)
+    go (inr h) = ap not (le-ltb p (9 * j) h) ∙ sym (le-leb (9 * j) p h)
 
-pub five : (k l m n o a b c d e : List ℕ) → k ≡ [] ++ a → l ≡ k ++ b → m ≡ l ++ c → n ≡ m ++ d → o ≡ n ++ e → o ≡ a ++ (b ++ (c ++ (d ++ e)))
-five k l m n o a b c d e p q r s t = rw (t, s, r, q, p) (simp append_assoc)
+-- ---- how many there are
+pub one_more : (t : Bool) (p : ℕ) (ps qs : Positions) → Pushed (only t p) ps qs → qs.count ≡ ps.count + bit t
+one_more t p ps qs w = omega (arith, w.count, only_length t p)
 
--- the five parts are those of the places
-pub five_places : (d : Change) (t u v w : Bool)
-    → t ≡ nonzero d.e && ltb d.p (9 * d.card) → u ≡ nonzero d.f && ltb d.q (9 * d.card)
-    → v ≡ nonzero d.e && leb (9 * d.card) d.p → w ≡ nonzero d.f && leb (9 * d.card) d.q
-    → (l : List ℕ) → l ≡ only t d.p ++ (only u d.q ++ (those (9 * d.card) 9 (row_test d.rows) ++ (only v d.p ++ only w d.q)))
-    → l ≡ places d
-unfolding places
-five_places d t u v w a b c e l h = h ∙ rw (a, b, c, e) refl
+pub nine_more : (s : ℕ) (g : ℕ → Bool) (ps qs : Positions) → Pushed (those s 9 g) ps qs → qs.count ≤ ps.count + 9
+nine_more s g ps qs w = omega (arith, w.count, few_those 9 s g)
+
+-- ---- the parts put together
+module _ (d : Change) (s t : Bool) (a b c : Positions)
+    (va : Pushed (only (nonzero d.e && s) d.p) no_positions a) (vb : Pushed (only (nonzero d.f && t) d.q) a b)
+    (vc : Pushed (those (9 * d.card) 9 (row_test d.rows)) b c) where
+  pub room_again : c.count + bit (nonzero d.e && not s) ≤ 11
+  room_again = omega (arith, one_more (nonzero d.e && s) d.p no_positions a va, one_more (nonzero d.f && t) d.q a b vb, nine_more (9 * d.card) (row_test d.rows) b c vc, one_side (nonzero d.e) s, one_le (nonzero d.f && t))
+
+  module _ (x : Positions) (vx : Pushed (only (nonzero d.e && not s) d.p) c x) where
+    pub room_last : x.count + bit (nonzero d.f && not t) ≤ 11
+    room_last = omega (
+      arith,
+      one_more (nonzero d.e && s) d.p no_positions a va,
+      one_more (nonzero d.f && t) d.q a b vb,
+      nine_more (9 * d.card) (row_test d.rows) b c vc,
+      one_more (nonzero d.e && not s) d.p c x vx,
+      one_side (nonzero d.e) s,
+      one_side (nonzero d.f) t,
+    )
+
+    pub all_pushed : (y : Positions) → Pushed (only (nonzero d.f && not t) d.q) x y → s ≡ ltb d.p (9 * d.card) → t ≡ ltb d.q (9 * d.card) → y ≡ filled (places d)
+    unfolding places
+    all_pushed y vy es et = filled_is (places d) y parts (omega (arith, room_last, one_more (nonzero d.f && not t) d.q x y vy))
+      where
+        after_p : only (nonzero d.e && not s) d.p ≡ after d.card d.p d.e
+        after_p = ap (λ (u : Bool). only (nonzero d.e && u) d.p) (ap not es ∙ after_is d.card d.p)
+
+        after_q : only (nonzero d.f && not t) d.q ≡ after d.card d.q d.f
+        after_q = ap (λ (u : Bool). only (nonzero d.f && u) d.q) (ap not et ∙ after_is d.card d.q)
+
+        parts : Pushed (places d) no_positions y
+        parts =
+            pushed_both (before d.card d.p d.e) _ no_positions a y (subst (λ (u : Bool). Pushed (only (nonzero d.e && u) d.p) no_positions a) es va)
+            (pushed_both (before d.card d.q d.f) _ a b y (subst (λ (u : Bool). Pushed (only (nonzero d.f && u) d.q) a b) et vb)
+            (pushed_both (those (9 * d.card) 9 (row_test d.rows)) _ b c y vc
+            (pushed_both (after d.card d.p d.e) (after d.card d.q d.f) c x y (subst (λ (l : List ℕ). Pushed l c x) after_p vx) (subst (λ (l : List ℕ). Pushed l x y) after_q vy))))

@@ -1,7 +1,7 @@
 -- A change made: the card's nine rows, then two chips.
 --
 --   added, not_added              a store of the sum at one position; no such position
---   Rows, rows_start, -more, -end the loop over the rows: those below n are added
+--   Rows, rows_start, -more       the loop over the rows: those below n are added
 --   no_card                       a card that there isn't
 --   applied_end                   the three steps are the change; not_applied: bytes that are no block
 --   applied_long, -at             the block after it: its length and its bytes
@@ -17,7 +17,8 @@ use lib.ListN.{length, get_or, set, length-set}
 use lib.Seq.{get_or-set_same, get_or-set_other}
 use borrow.Author.Tests.{eq-eqb, ne_eqb, lt-ltb, le-ltb, ltb-true, ltb-false}
 use Rattle.field.specs.Field.{◌⊕◌}
-use Rattle.base.proofs.Tests.{same, every_at, and_no, and_yes}
+use Rattle.std.proofs.lemmas.Bool.{cases_eq}
+use Rattle.base.proofs.Tests.{every_at, and_no}
 use Rattle.field.proofs.Xor.{add_assoc, add_self, add_zero, zero_add, sums}
 use Rattle.code.specs.Block.{byte, block_of}
 use Rattle.code.proofs.Blocks.{same_block, block_of_at, block_of_length}
@@ -27,7 +28,7 @@ use Rattle.change.specs.declared.Change.{Change}
 
 -- ---- at one position
 pub added : (b : List ℕ) (at x y : ℕ) → at < length b → y ≡ byte b at ⊕ x → AddedAt at x b (set b at y)
-added b at x y h e = (length-set b at y, λ r l. go r l (same r at))
+added b at x y h e = (length-set b at y, λ r l. go r l (cases_eq r at))
   where
     go : (r : ℕ) → r < length b → (r ≡ at) ⊎ (r ≢ at) → byte (set b at y) r ≡ byte b r ⊕ if (eqb r at) x 0
     go r l (inl q) = subst (λ (i : ℕ). byte (set b at y) i ≡ byte b i ⊕ if (eqb i at) x 0) (sym q)
@@ -57,7 +58,7 @@ rows_start b j z l = record {
 -- one more row
 step : (j : ℕ) (z : List ℕ) (n x r : ℕ) → n < 9 → x ≡ get_or z n 0
     → if (below j n r) (row z r) 0 ⊕ if (eqb r (9 * j + n)) x 0 ≡ if (below j (n + 1) r) (row z r) 0
-step j z n x r h e = go (same r (9 * j + n))
+step j z n x r h e = go (cases_eq r (9 * j + n))
   where
     other : r ≢ 9 * j + n → (r / 9 ≡ j) ⊎ (r / 9 ≢ j) → below j n r ≡ below j (n + 1) r
     other ne (inl q) = ap (λ (t : Bool). eqb (r / 9) j && t) (by (ltb (r % 9) n) refl)
@@ -74,7 +75,7 @@ step j z n x r h e = go (same r (9 * j + n))
         rw (eq-eqb r (9 * j + n) q, eq-eqb (r / 9) j c, le-ltb (r % 9) n (omega (arith, m)), lt-ltb (r % 9) (n + 1) (omega (arith, m)))
         (zero_add x ∙ e ∙ ap (λ (i : ℕ). get_or z i 0) (sym m))
     go (inr q) = rw (ne_eqb r (9 * j + n) q)
-        (add_zero (if (below j n r) (row z r) 0) ∙ ap (λ (t : Bool). if t (row z r) 0) (other q (same (r / 9) j)))
+        (add_zero (if (below j n r) (row z r) 0) ∙ ap (λ (t : Bool). if t (row z r) 0) (other q (cases_eq (r / 9) j)))
 
 pub rows_more : (b : List ℕ) (j : ℕ) (z : List ℕ) (n x : ℕ) (block block' : List ℕ) → n < 9 → x ≡ get_or z n 0 → AddedAt (9 * j + n) x block block'
     → Rows b j z n block → Rows b j z (n + 1) block'
@@ -85,14 +86,6 @@ rows_more b j z n x block block' h e a w = record {
       ∙ add_assoc (byte b r) (if (below j n r) (row z r) 0) (if (eqb r (9 * j + n)) x 0)
       ∙ ap (λ (y : ℕ). byte b r ⊕ y) (step j z n x r h e);
 }
-
-pub rows_end : (b : List ℕ) (j : ℕ) (z : List ℕ) (n : ℕ) (block : List ℕ) → length b ≡ 45 → 9 ≤ n → Rows b j z n block → RowsAdded j z b block
-rows_end b j z n block l h w = (
-  w.long ∙ sym l,
-  λ r lr. w.changed r (subst (λ (i : ℕ). r < i) l lr)
-      ∙ ap (λ (t : Bool). byte b r ⊕ if (eqb (r / 9) j && t) (row z r) 0) (lt-ltb (r % 9) n (omega arith))
-      ∙ ap (λ (t : Bool). byte b r ⊕ if t (row z r) 0) (and_yes (eqb (r / 9) j)),
-)
 
 pub no_card : (b : List ℕ) (j : ℕ) (z : List ℕ) → length b ≡ 45 → 4 < j → RowsAdded j z b b
 no_card b j z l h = (refl, λ r lr. rw (ne_eqb (r / 9) j (λ e. omega (arith, l, lr, h, e))) (sym (add_zero (byte b r))))
@@ -148,7 +141,7 @@ adds_none r =
     ∙ add_self 0
 
 pub applied_none : (b : List ℕ) → applied b no_change ≡ b
-applied_none b = pick (same (length b) 45)
+applied_none b = pick (cases_eq (length b) 45)
   where
     pick : (length b ≡ 45) ⊎ (length b ≢ 45) → applied b no_change ≡ b
     pick (inl l) = unadded b no_change l (λ r h. adds_none r)

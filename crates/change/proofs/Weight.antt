@@ -1,6 +1,7 @@
 -- How many bytes a change changes.
 --
 --   zero_not, nonzero_is, nonzero_ne   the test that a number is not 0
+--   bit_of                  a test as a number, as the code makes it
 --   same_at, other_at       a byte is kept exactly where nothing is added
 --   on_card, off_card       what a well-formed change adds on its card, and elsewhere
 --   adds_weight             it adds something at as many positions as it has places that are not 0
@@ -15,9 +16,11 @@ use native.Mathlib.Omega.{arith}
 use lib.Dec.{eqb}
 use lib.ListN.{length, get_or}
 use borrow.Author.Tests.{eqb-true, eqb-false, eq-eqb, ne_eqb, not-false}
+use mir.Val.{bool_byte}
 use Rattle.base.specs.Base.{if, bit, tally}
-use Rattle.base.proofs.Tests.{same, and_no}
-use Rattle.base.proofs.Tally.{clash, tally_ext, tally_never, tally_none, tally_some, tally_add, tally_point, tally_card}
+use Rattle.std.proofs.lemmas.Bool.{both_ways, cases_eq}
+use Rattle.base.proofs.Tests.{and_no}
+use Rattle.base.proofs.Tally.{tally_ext, tally_never, tally_none, tally_some, tally_add, tally_point, tally_card}
 use Rattle.field.specs.Field.{◌⊕◌}
 use Rattle.field.proofs.Xor.{add_zero, zero_add, add_self_left, add_self}
 use Rattle.code.specs.Block.{byte, changes}
@@ -32,7 +35,7 @@ pub nonzero_is : (v : ℕ) → v ≢ 0 → nonzero v ≡ true
 nonzero_is v e = ap not (ne_eqb v 0 e)
 
 pub nonzero_ne : (v : ℕ) → nonzero v ≡ true → v ≢ 0
-nonzero_ne v h e = clash (nonzero v) h (zero_not v e)
+nonzero_ne v h e = both_ways (nonzero v) (zero_not v e) h
 
 pub at_most_one : (v n : ℕ) → n ≡ bit (nonzero v) → n ≤ 1
 at_most_one v n e = go (nonzero v) e
@@ -41,13 +44,18 @@ at_most_one v n e = go (nonzero v) e
     go true q = omega arith
     go false q = omega arith
 
+-- a test as a number, as the code makes it
+pub bit_of : (t : Bool) → bool_byte t ≡ bit t
+bit_of true = refl
+bit_of false = refl
+
 if_zero : (t : Bool) (v : ℕ) → v ≡ 0 → if t v 0 ≡ 0
 if_zero true v e = e
 if_zero false v e = refl
 
 -- the sum is the same byte exactly where nothing is added
 xor_eqb : (a v : ℕ) → eqb a (a ⊕ v) ≡ eqb v 0
-xor_eqb a v = go (same v 0)
+xor_eqb a v = go (cases_eq v 0)
   where
     go : (v ≡ 0) ⊎ (v ≢ 0) → eqb a (a ⊕ v) ≡ eqb v 0
     go (inl e) = eq-eqb a (a ⊕ v) (sym (add_zero a) ∙ ap (λ (x : ℕ). a ⊕ x) (sym e)) ∙ sym (eq-eqb v 0 e)
@@ -123,7 +131,7 @@ module _ (d : Change) (w : WellFormed d) where
   -- at each position at most one of the three adds something
   each : (r : ℕ) → bit (nonzero (adds d r)) ≡ bit (row_test r) + (bit (at d.p d.e r) + bit (at d.q d.f r))
   unfolding row_test
-  each r = pick (same (r / 9) d.card)
+  each r = pick (cases_eq (r / 9) d.card)
     where
       both : (r ≡ d.p) ⊎ (r ≢ d.p) → (r ≡ d.q) ⊎ (r ≢ d.q) → (d.f ≡ 0) ⊎ ((d.q < 45) × (d.q / 9 ≢ d.card) × (d.q ≢ d.p))
           → bit (nonzero (if (eqb r d.p) d.e 0 ⊕ if (eqb r d.q) d.f 0)) ≡ bit (at d.p d.e r) + bit (at d.q d.f r)
@@ -146,7 +154,7 @@ module _ (d : Change) (w : WellFormed d) where
           = ap (λ (x : ℕ). bit (nonzero x)) (off_card r h) in
           let mine : bit (eqb (r / 9) d.card && nonzero_at d.rows (r % 9)) ≡ 0
           = ap (λ (t : Bool). bit (t && nonzero_at d.rows (r % 9))) (ne_eqb (r / 9) d.card h) in
-          omega (arith, here, mine, both (same r d.p) (same r d.q) w.second)
+          omega (arith, here, mine, both (cases_eq r d.p) (cases_eq r d.q) w.second)
 
   pub adds_weight : tally 45 (λ r. nonzero (adds d r)) ≡ weight d
   unfolding weight row_test

@@ -11,8 +11,9 @@
 --   ordered d     the same change with p not above q
 --   positions ps  the positions that a Positions holds; filled l: the one that holds l, and then zeros
 --   Listed        ps holds the places of d; of a well-formed one these are the positions that it changes, lowest first
+--   Pushed          ps' holds what ps does and l after it
 --   AddedAt         a step in which a change is made: x added at one position; RowsAdded: nine rows added to card j
-use Rattle.std.specs.Prelude.{◌≡◌, Bool, ◌&&◌, not, ◌⊎◌, ◌≢◌, List, [], ◌∷◌, ◌++◌, ℕ, ◌+◌, ◌-◌, ◌*◌, ◌/◌, ◌%◌, ◌<◌, eqb, leb, ltb, length, take, get_or, replicate}
+use Rattle.std.specs.Prelude.{◌≡◌, Bool, ◌&&◌, not, ◌⊎◌, ◌≢◌, List, [], ◌∷◌, ◌++◌, ℕ, ◌+◌, ◌-◌, ◌*◌, ◌/◌, ◌%◌, ◌<◌, eqb, leb, ltb, length, take, drop, get_or, replicate}
 use Rattle.base.specs.Base.{if, bit, tally, only, those}
 use Rattle.field.specs.Field.{◌⊕◌}
 use Rattle.code.specs.Block.{byte, block_of, changes, differing}
@@ -77,6 +78,13 @@ filled l = record { count = length l; at = l ++ replicate (11 - length l) 0 }
 pub record Listed (d : Change) (ps : Positions) : Type 0 where
   pub whole : ps ≡ filled (places (ordered d))
   pub changed : WellFormed d → (b : List ℕ) → length b ≡ 45 → positions ps ≡ differing b (applied b d)
+
+-- a step in which they are listed: l comes after those that are there, and behind it all is as it was
+pub record Pushed (l : List ℕ) (ps ps' : Positions) : Type 0 where
+  pub count : ps'.count ≡ ps.count + length l
+  pub held : positions ps' ≡ positions ps ++ l
+  pub behind : drop ps'.count ps'.at ≡ drop ps'.count ps.at
+  pub long : length ps'.at ≡ length ps.at
 
 -- ---- the steps in which it is made
 abbrev pub AddedAt : ℕ → ℕ → List ℕ → List ℕ → Type 0

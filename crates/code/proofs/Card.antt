@@ -19,8 +19,8 @@ use Prim.Native.Nat.{ℕ, ◌/◌, ◌%◌, ◌^◌, ◌<◌}
 use native.Mathlib.Omega.{arith}
 use lib.Dec.{eqb}
 use borrow.Author.Tests.{eqb-false, eq-eqb, ne_eqb}
+use Rattle.std.proofs.lemmas.Bool.{cases_eq}
 use Rattle.base.specs.Base.{if, In}
-use Rattle.base.proofs.Tests.{same}
 use Rattle.field.specs.Field.{sum, ◌⊕◌}
 use Rattle.field.proofs.Xor.{add_self, zero_add, add_zero, add_lt, sums}
 use Rattle.field.proofs.Sum.{sum_ext, sum_zero, sum_add, sum_additive, sum_nest, sum_swap, sum_one, Once, sum_over}
@@ -90,7 +90,7 @@ row_off j hj x y off i l =
 
 pub fill_only : (j : ℕ) → j < 5 → (x y : ℕ → ℕ) → ((i : ℕ) → i < 9 → row x i ≡ 0)
     → ((r : ℕ) → r < 45 → r / 9 ≢ j → x r ≡ y r) → (r : ℕ) → r < 45 → x r ≡ fill j y r
-fill_only j hj x y rows off r hr = pick (same (r / 9) j)
+fill_only j hj x y rows off r hr = pick (cases_eq (r / 9) j)
   where
     pick : (r / 9 ≡ j) ⊎ (r / 9 ≢ j) → x r ≡ fill j y r
     pick (inl e) =
@@ -135,7 +135,7 @@ module _ (w : ℕ) (◌·◌ : ℕ → ℕ → ℕ) (F : IsField w ◌·◌) (ls
   law_red r y law t j l = no_share t j y law.rows ∙ law.labels t l
 
   pub red_off : (t j : ℕ) (x y : ℕ → ℕ) → ((r : ℕ) → r < 45 → r / 9 ≢ j → x r ≡ y r) → red ◌·◌ ls t j x ≡ red ◌·◌ ls t j y
-  red_off t j x y off = sum_ext 45 (λ p. squared ◌·◌ t (entry ls j p) · x p) (λ p. squared ◌·◌ t (entry ls j p) · y p) (λ r l. pick r l (same (r / 9) j))
+  red_off t j x y off = sum_ext 45 (λ p. squared ◌·◌ t (entry ls j p) · x p) (λ p. squared ◌·◌ t (entry ls j p) · y p) (λ r l. pick r l (cases_eq (r / 9) j))
     where
       gone : (r z : ℕ) → r / 9 ≡ j → squared ◌·◌ t (entry ls j r) · z ≡ 0
       gone r z e =

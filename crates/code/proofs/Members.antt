@@ -11,8 +11,8 @@ use Prim.Native.Nat.{ℕ, ◌/◌, ◌<◌, ◌≤◌}
 use native.Mathlib.Decide.{dec_lt}
 use native.Mathlib.Omega.{arith}
 use lib.Seq.{get_or-take}
+use Rattle.std.proofs.lemmas.Bool.{cases_eq}
 use Rattle.base.specs.Base.{In}
-use Rattle.base.proofs.Tests.{same}
 use Rattle.field.specs.Field.{◌·◌}
 use Rattle.field.proofs.Sum.{sum_zero}
 use Rattle.field.proofs.Ring.{mul_zero}
@@ -74,4 +74,4 @@ stored_alike ls ok r x y s t =
 
     differ : (p : ℕ) → p < 45 → Dec (p < 34) → (byte x p ≡ byte y p) ⊎ ((p / 9 ≡ 4) ⊎ In p (34 ∷ 35 ∷ []))
     differ p l (yes a) = inl (sym (get_or-take 34 x p 0 a) ∙ ap (λ (v : List ℕ). byte v p) (s.begins ∙ sym t.begins) ∙ get_or-take 34 y p 0 a)
-    differ p l (no a) = inr (late p (omega arith) l (same p 34) (same p 35))
+    differ p l (no a) = inr (late p (omega arith) l (cases_eq p 34) (cases_eq p 35))

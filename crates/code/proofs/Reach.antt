@@ -13,8 +13,8 @@ use mathlib.Core.List.{List, [], ◌∷◌}
 use Prim.Native.Nat.{ℕ, ◌/◌, ◌%◌, ◌^◌, ◌<◌}
 use native.Mathlib.Omega.{arith}
 use lib.Dec.{T, eqb}
+use Rattle.std.proofs.lemmas.Bool.{cases_eq}
 use Rattle.base.specs.Base.{if, In, Few}
-use Rattle.base.proofs.Tests.{same}
 use Rattle.field.specs.Field.{◌⊕◌, ◌·◌}
 use Rattle.field.proofs.Xor.{add_zero, add_lt, eq_of_sum}
 use Rattle.field.proofs.Linear.{if_below}
@@ -86,7 +86,7 @@ module _ (ls : List ℕ) (ok : LabelSet ls) (j : ℕ) (hj : j < 5) (b : List ℕ
     block = block_of_is_block (fill j y) (fill_below y (λ r. add_lt 8 (byte b r) (v r) (all_below b bb r) (values_below 8 ◌·◌ field (entry ls j) ps s r)));
     lawful = from_law ls (block_of (fill j y)) (fill j y) (block_of_at (fill j y))
         (mended_law 8 ◌·◌ field ls (label_below ls ok) rules j hj (byte b) ps o.0 (free_columns ls ok j hj ps o) ok');
-    only = λ r l. each r l (same (r / 9) j) (member r ps);
+    only = λ r l. each r l (cases_eq (r / 9) j) (member r ps);
   }
     where
       s : ℕ → ℕ

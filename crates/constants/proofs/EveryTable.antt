@@ -12,7 +12,7 @@ use native.Mathlib.Omega.{arith}
 use lib.Dec.{lit<}
 use lib.ListN.{get_or, get_or-eq_default}
 use borrow.Author.Tests.{ne_eqb, lt-ltb, le-ltb}
-use Rattle.base.proofs.Tests.{same, lt_or_le}
+use Rattle.std.proofs.lemmas.Bool.{cases_eq, cases_lt}
 use Rattle.field.specs.Field.{◌·◌}
 use Rattle.field.specs.Table.{inverse_words}
 use Rattle.field.proofs.Gf256.{field}
@@ -26,6 +26,7 @@ use Rattle.pairs.proofs.Points.{spread_at}
 use Rattle.sheet.specs.ByTables.{logs_inverse}
 use Rattle.sheet.proofs.Lines.{line_by_line}
 use Rattle.sheet.proofs.ByTables.{logs_invert}
+use Rattle.slip.proofs.Constants.{limit_table}
 use Rattle.constants.specs.EveryTable.{worked_inverse, worked_word, EveryTable}
 use Rattle.constants.proofs.WorkedFactors.{label_at}
 
@@ -37,7 +38,7 @@ one_inverse a x y hx hy e f =
 
 table_inverse : (a : ℕ) → a < 256 → in_table a ≡ worked_inverse a
 unfolding in_table
-table_inverse a h = go (same a 0)
+table_inverse a h = go (cases_eq a 0)
   where
     go : (a ≡ 0) ⊎ (a ≢ 0) → in_table a ≡ worked_inverse a
     go (inl e) = ap in_table e ∙ in_table_zero ∙ ap (λ (x : ℕ). worked_inverse x) (sym e)
@@ -61,7 +62,7 @@ unfolding spread_of
 no_digit = refl
 
 word_at : (j i : ℕ) → i < 9 → get_or (spread built_in) (9 * j + i) 0 ≡ worked_word j i
-word_at j i h = go (lt_or_le j 5)
+word_at j i h = go (cases_lt j 5)
   where
     go : (j < 5) ⊎ (5 ≤ j) → get_or (spread built_in) (9 * j + i) 0 ≡ worked_word j i
     go (inl l) = spread_at built_in (9 * j + i) ∙ ap (spread_of 8) (label_at (9 * j + i) (omega arith)) ∙ rw (lt-ltb j 5 l) refl
@@ -73,5 +74,5 @@ every_table = record {
   labels = λ κs a r s l p h. ap (λ (x : List ℕ). byte x p) l ∙ label_at p h;
   inverses = λ κs a r s l i hh hi. ap (λ (w : ℕ). byte_of w i) l ∙ in_word _ i hh hi;
   words = λ κs a r s l i h. l i h ∙ word_at _ i h;
-  limits = λ κs a r s l. l;
+  limits = limit_table;
 }

@@ -12,7 +12,7 @@ use Rattle.code.specs.Labels.{label}
 use Rattle.code.proofs.Constants.{LabelTable}
 use Rattle.pairs.specs.Words.{byte_of, spread_of}
 use Rattle.sums.proofs.Constants.{WordTable}
-use Rattle.slip.specs.Limits.{limits_of}
+use Rattle.slip.specs.Limits.{limits_of, limits_said, allowed_of}
 use Rattle.slip.proofs.Constants.{LimitTable}
 use Rattle.sheet.specs.Lines.{LineByLine}
 use Rattle.sheet.specs.ByTables.{logs_inverse}
@@ -32,5 +32,6 @@ pub record EveryTable : Type 0 where
   pub inverses : InverseTable (λ h word. (i : ℕ) → h < 32 → i < 8 → byte_of word i ≡ worked_inverse (8 * h + i))
   -- sums: the words of card j
   pub words : WordTable (λ j words. (i : ℕ) → i < 9 → get_or words i 0 ≡ worked_word j i)
-  -- slip: no values of the field, but the limits that order 8 sets (`behind_exactly` of slip says what they come to)
-  pub limits : LimitTable (λ map limits. limits ≡ limits_of map)
+  -- slip: no values of the field, but the limits that order 8 sets (`behind_exactly` of slip says what they come to); the table itself, and
+  -- back again
+  pub limits : LimitTable (λ map table. (table ≡ allowed_of map) × (limits_said table ≡ limits_of map))

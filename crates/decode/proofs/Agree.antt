@@ -12,8 +12,8 @@ use mathlib.Core.List.{List}
 use native.Mathlib.Omega.{arith}
 use lib.ListN.{length}
 use borrow.Author.Tests.{ne_eqb}
+use Rattle.std.proofs.lemmas.Bool.{cases_eq}
 use Rattle.base.specs.Base.{if}
-use Rattle.base.proofs.Tests.{same}
 use Rattle.answer.specs.Answer.{Answer, number, refused}
 use Rattle.field.specs.Field.{◌⊕◌}
 use Rattle.field.proofs.Xor.{add_self_left}
@@ -35,11 +35,11 @@ use Rattle.change.proofs.Listed.{filled_positions}
 use Rattle.reading.specs.Reading.{reading_answer}
 use Rattle.reading.proofs.Agree.{under_agree}
 use Rattle.decode.specs.Decode.{Decodes}
-use Rattle.decode.specs.declared.Decoded.{Decoded}
+use Rattle.decode.specs.Decode.{Decoded, reading_of, change_of}
 
 acts_alike : (d d' : Change) (b : List ℕ) → length b ≡ 45 → applied b d ≡ applied b d' → (c : List ℕ) → applied c d ≡ applied c d'
 unfolding applied
-acts_alike d d' b l e c = pick (same (length c) 45)
+acts_alike d d' b l e c = pick (cases_eq (length c) 45)
   where
     added : (p : ℕ) → p < 45 → adds d p ≡ adds d' p
     added p h =
@@ -58,9 +58,9 @@ acts_alike d d' b l e c = pick (same (length c) 45)
 
 -- the answers, what the changes make of any bytes, and the positions that `changed` lists
 pub record SameOutcome (r r' : Decoded) : Type 0 where
-  pub answer : reading_answer r.reading ≡ reading_answer r'.reading
-  pub made : (c : List ℕ) → applied c r.change ≡ applied c r'.change
-  pub listed : (ps ps' : Positions) → Listed r.change ps → Listed r'.change ps' → ps ≡ ps'
+  pub answer : reading_answer (reading_of r) ≡ reading_answer (reading_of r')
+  pub made : (c : List ℕ) → applied c (change_of r) ≡ applied c (change_of r')
+  pub listed : (ps ps' : Positions) → Listed (change_of r) ps → Listed (change_of r') ps' → ps ≡ ps'
 
 list_alike : (d d' : Change) → WellFormed d → WellFormed d' → applied zeros d ≡ applied zeros d' → (ps ps' : Positions) → Listed d ps → Listed d' ps' → ps ≡ ps'
 list_alike d d' w w' e ps ps' l l' = l.whole ∙ ap filled (is d ps l ∙ same_list ∙ sym (is d' ps' l')) ∙ sym l'.whole
@@ -74,22 +74,22 @@ list_alike d d' w w' e ps ps' l l' = l.whole ∙ ap filled (is d ps l ∙ same_l
 pub decodes_agree : (s : Sums) (m : Marks) (r r' : Decoded) → Decodes s m r → Decodes s m r' → (b : List ℕ) → Block b → IsSums built_in b s → SameOutcome r r'
 decodes_agree s m r r' w v b bb is = go (marks_cause m) refl
   where
-    outcome : reading_answer r.reading ≡ reading_answer r'.reading → ((c : List ℕ) → applied c r.change ≡ applied c r'.change) → SameOutcome r r'
-    outcome a h = record { answer = a; made = h; listed = list_alike r.change r'.change w.formed v.formed (h zeros) }
+    outcome : reading_answer (reading_of r) ≡ reading_answer (reading_of r') → ((c : List ℕ) → applied c (change_of r) ≡ applied c (change_of r')) → SameOutcome r r'
+    outcome a h = record { answer = a; made = h; listed = list_alike (change_of r) (change_of r') w.formed v.formed (h zeros) }
 
     go : (n : ℕ) → marks_cause m ≡ n → SameOutcome r r'
     go zero e =
         let l = cause_lawful m e in
-        let g = under_agree m b b (reading_answer r.reading) (reading_answer r'.reading) (applied b r.change) (applied b r'.change)
+        let g = under_agree m b b (reading_answer (reading_of r)) (reading_answer (reading_of r')) (applied b (change_of r)) (applied b (change_of r'))
         (w.reads l b bb is) (v.reads l b bb is) in
-        outcome g.0 (acts_alike r.change r'.change b bb.long g.1)
+        outcome g.0 (acts_alike (change_of r) (change_of r') b bb.long g.1)
     go (suc n) e =
         let ne : marks_cause m ≢ 0 = λ z. omega (arith, e, z) in
         let k = w.unlawful ne in
         let k' = v.unlawful ne in
         let refuses : (x : Answer) → x ≡ refused (marks_cause m) → number x ≢ 0 = λ x q z. ne (sym (ap number q) ∙ z) in
-        let none = w.unchanged (refuses (reading_answer r.reading) k) in
-        let none' = v.unchanged (refuses (reading_answer r'.reading) k') in
+        let none = w.unchanged (refuses (reading_answer (reading_of r)) k) in
+        let none' = v.unchanged (refuses (reading_answer (reading_of r')) k') in
         outcome (k ∙ sym k') (λ c. ap (applied c) (none ∙ sym none'))
 
 pub decodes_one : (s : Sums) → s.low < 2 ^ 64 → s.high < 2 ^ 8 → s.once < 2 ^ 8 → s.squared < 2 ^ 8 → (m : Marks) (r r' : Decoded)

@@ -14,9 +14,10 @@ use mathlib.Core.List.{List, []}
 use Prim.Native.Nat.{ℕ, zero, suc, ◌+◌, ◌*◌, ◌^◌, ◌<◌, ◌≤◌}
 use native.Mathlib.Omega.{arith}
 use lib.Dec.{eqb}
+use Rattle.std.proofs.lemmas.Bool.{cases_eq}
+use Rattle.std.specs.Prelude.{Option, Some, None}
 use borrow.Author.Tests.{eq-eqb, ne_eqb}
 use Rattle.base.specs.Base.{tally}
-use Rattle.base.proofs.Tests.{same}
 use Rattle.base.proofs.Tally.{tally_ext}
 use Rattle.field.specs.Field.{◌⊕◌}
 use Rattle.field.proofs.Xor.{add_self, eq_of_sum}
@@ -24,7 +25,7 @@ use Rattle.answer.specs.Answer.{in_card}
 use Rattle.code.specs.Labels.{built_in, LabelSet}
 use Rattle.code.specs.Reach.{keep, Reached}
 use Rattle.code.proofs.BuiltIn.{built_in_set}
-use Rattle.marks.specs.declared.CardMark.TheVariants.{None}
+use Rattle.std.specs.Prelude.{None}
 use Rattle.pairs.specs.Words.{spread, gathered, at_point, paired}
 use Rattle.sums.specs.Sums.{rows_of, taken}
 use Rattle.sums.specs.declared.Sums.{Sums}
@@ -38,11 +39,11 @@ use Rattle.reading.specs.Allowed.{ChipKind}
 use Rattle.reading.specs.Reading.{Reads, Reaches}
 use Rattle.reading.specs.declared.Kind.{Kind}
 use Rattle.reading.specs.declared.Kind.TheVariants.{OneCard}
-use Rattle.reading.specs.declared.Reading.TheVariants.{Corrected}
+use Rattle.std.specs.Prelude.{Ok}
 use Rattle.reading.proofs.Facts.{reaches, reached_by}
 use Rattle.reading.proofs.Named.{all_or_one}
 use Rattle.decode.specs.Equations.{fits_by, rows_only, Within}
-use Rattle.decode.specs.Search.{Known, SumsAt, Alone, stray, strays, chips_kind, Looked}
+use Rattle.decode.specs.Search.{Known, SumsAt, Alone, stray, strays, chips_kind, Looked, LookedTwice}
 use Rattle.decode.specs.Decode.{Answers}
 use Rattle.decode.proofs.Describe.{unsolved, solves_none}
 use Rattle.decode.proofs.Answer.{correction, alone_counted, known_beside}
@@ -53,7 +54,7 @@ pub sums_at : (ls : List ℕ) → LabelSet ls → (s : Sums) (j : ℕ) → j < 5
 sums_at ls ok s j hj words w u e b k = reduced_sums ls b ok k.block s k.sums j hj words w u e
 
 sum_test : (a b : ℕ) → eqb (b ⊕ a) 0 ≡ eqb a b
-sum_test a b = go (same a b)
+sum_test a b = go (cases_eq a b)
   where
     go : (a ≡ b) ⊎ (a ≢ b) → eqb (b ⊕ a) 0 ≡ eqb a b
     go (inl e) = eq-eqb (b ⊕ a) 0 (ap (λ (x : ℕ). b ⊕ x) e ∙ add_self b) ∙ sym (eq-eqb a b e)
@@ -78,7 +79,7 @@ alone_is ls ok s j hj a c h t e = record {
 
 -- the test as the code makes it: both at once
 pub paired_test : (a b c d x y : ℕ) → a < 2 ^ 8 → b < 2 ^ 8 → x ≡ paired a c → y ≡ paired b d → eqb x y ≡ eqb a b && eqb c d
-paired_test a b c d x y ha hb ex ey = go (same a b) (same c d)
+paired_test a b c d x y ha hb ex ey = go (cases_eq a b) (cases_eq c d)
   where
     is : (m : x ≡ y) → c * 2 ^ 32 + a ≡ d * 2 ^ 32 + b
     is m = sym (paired_digits a c ha) ∙ sym ex ∙ m ∙ ey ∙ paired_digits b d hb
@@ -100,7 +101,7 @@ alone_at s h j hj =
 -- ---- under the built-in labels a card that takes an amount other than 0 is the only one
 module _ (s : Sums) (once : s.once < 2 ^ 8) (high : s.high < 2 ^ 8) (b : List ℕ) (known : Known built_in b s) where
   takes : (j : ℕ) → j < 5 → (x : List ℕ) → Reached built_in j [] b x → taken s j ≡ paired s.once s.squared
-  takes j hj x r = pick (same (taken s j) (paired s.once s.squared))
+  takes j hj x r = pick (cases_eq (taken s j) (paired s.once s.squared))
     where
       pick : (taken s j ≡ paired s.once s.squared) ⊎ (taken s j ≢ paired s.once s.squared) → taken s j ≡ paired s.once s.squared
       pick (inl e) = e
@@ -113,10 +114,10 @@ module _ (s : Sums) (once : s.once < 2 ^ 8) (high : s.high < 2 ^ 8) (b : List �
       next_fixed (gathered (rows_of s) (spread built_in) 0)
       (next_taken s 0 high (omega arith) ∙ takes 1 (omega arith) w.0 w.1 ∙ sym (takes 0 (omega arith) v.0 v.1))
 
-  pub only_card : (j : ℕ) → j < 5 → taken s j ≢ 0 → (card : ℕ) → Looked built_in [] b j 0 card → Looked built_in [] b (j + 1) 1 j → Looked built_in [] b 5 1 j
-  only_card j hj ne card before (below, (y, q, n), none) = (hj, (y, q, n), λ i l other x r. contrary j hj ne before q i l other x r)
+  pub only_card : (j : ℕ) → j < 5 → taken s j ≢ 0 → Looked built_in [] b j None → Looked built_in [] b (j + 1) (Some j) → Looked built_in [] b 5 (Some j)
+  only_card j hj ne before (below, (y, q, n), none) = (hj, (y, q, n), λ i l other x r. contrary j hj ne before q i l other x r)
     where
-      contrary : (j : ℕ) → j < 5 → taken s j ≢ 0 → Looked built_in [] b j 0 card → Reached built_in j [] b y → (i : ℕ) → i < 5 → (i ≡ j → ⊥)
+      contrary : (j : ℕ) → j < 5 → taken s j ≢ 0 → Looked built_in [] b j None → Reached built_in j [] b y → (i : ℕ) → i < 5 → (i ≡ j → ⊥)
           → (x : List ℕ) → Reached built_in i [] b x → ⊥
       contrary zero hj ne before q i l other x r =
           let all = all_or_one b known.block i 0 other (reaches built_in [] b i l x r) (reaches built_in [] b 0 hj y q) in
@@ -154,11 +155,11 @@ module _ (ls : List ℕ) (ok : LabelSet ls) (s : Sums) (n : ℕ) (en : n ≡ wei
     kept e b k = to_keep ls j [] b (applied b (rows_only (rows_of s) j)) (h.found e b k)
 
     pub found_chips : t ≡ true → n ≤ 1 → (kind : Kind) → kind ≡ chips_kind n → (d : Change) → d ≡ rows_only (rows_of s) j
-        → Answers ls None [] s (record { reading = Corrected kind; change = d })
+        → Answers ls None [] s (Ok (record { kind = kind; change = d }))
     unfolding keep
     found_chips e l kind q d qd =
-        subst (λ (x : Change). Answers ls None [] s (record { reading = Corrected kind; change = x })) (sym qd)
-        (subst (λ (x : Kind). Answers ls None [] s (record { reading = Corrected x; change = rows_only (rows_of s) j })) (sym (q ∙ ap chips_kind same_n))
+        subst (λ (x : Change). Answers ls None [] s (Ok (record { kind = kind; change = x }))) (sym qd)
+        (subst (λ (x : Kind). Answers ls None [] s (Ok (record { kind = x; change = rows_only (rows_of s) j }))) (sym (q ∙ ap chips_kind same_n))
         (correction ls None [] s (chips_kind (weight (rows_only (rows_of s) j))) (rows_only (rows_of s) j) (rows_formed (rows_of s) j hj)
         (λ b k. chips_reads ls ok [] tt b k.block j hj (rows_only (rows_of s) j) (within_alone (rows_of s) j []) (kept e b k)
         (omega (arith, strays_alone (rows_of s) j, n_is)))))
@@ -168,20 +169,20 @@ module _ (ls : List ℕ) (ok : LabelSet ls) (s : Sums) (n : ℕ) (en : n ≡ wei
         not_chips ls ok [] tt b k.block j hj (rows_only (rows_of s) j) (within_alone (rows_of s) j (keep j [])) (kept e b k)
         (omega (arith, strays_alone (rows_of s) j, n_is))
 
-    pub found_card : t ≡ true → 2 ≤ n → (b : List ℕ) → Known ls b s → (card : ℕ) → Looked ls [] b j 0 card → Looked ls [] b (j + 1) 1 j
-    found_card e l b k card = first_found ls ok [] tt b j (applied b (rows_only (rows_of s) j)) (h.found e b k) (not_by_chips e l b k) card
+    pub found_card : t ≡ true → 2 ≤ n → (b : List ℕ) → Known ls b s → Looked ls [] b j None → Looked ls [] b (j + 1) (Some j)
+    found_card e l b k = first_found ls ok [] tt b j (applied b (rows_only (rows_of s) j)) (h.found e b k) (not_by_chips e l b k)
 
-    pub second_card : t ≡ true → (b : List ℕ) → Known ls b s → (card : ℕ) → Looked ls [] b j 1 card → Looked ls [] b 5 2 card
-    second_card e b k card = second_found ls ok [] tt b j 5 hj (applied b (rows_only (rows_of s) j)) (h.found e b k) card
+    pub second_card : t ≡ true → (b : List ℕ) → Known ls b s → (card : ℕ) → Looked ls [] b j (Some card) → LookedTwice ls [] b card
+    second_card e b k card = second_found ls ok [] tt b j hj (applied b (rows_only (rows_of s) j)) (h.found e b k) card
 
-    pub passed_card : t ≡ false → (b : List ℕ) → Known ls b s → (found card : ℕ) → Looked ls [] b j found card → Looked ls [] b (j + 1) found card
-    passed_card e b k found card = passed ls ok [] tt b j found card (h.none e b k)
+    pub passed_card : t ≡ false → (b : List ℕ) → Known ls b s → (found : Option ℕ) → Looked ls [] b j found → Looked ls [] b (j + 1) found
+    passed_card e b k found = passed ls ok [] tt b j found (h.none e b k)
 
-    pub card_answers : t ≡ true → ((b : List ℕ) → Known ls b s → Looked ls [] b 5 1 j) → (d : Change) → d ≡ rows_only (rows_of s) j
-        → Answers ls None [] s (record { reading = Corrected (OneCard j n); change = d })
+    pub card_answers : t ≡ true → ((b : List ℕ) → Known ls b s → Looked ls [] b 5 (Some j)) → (d : Change) → d ≡ rows_only (rows_of s) j
+        → Answers ls None [] s (Ok (record { kind = OneCard j n; change = d }))
     unfolding keep
     card_answers e looked d qd =
-        subst (λ (x : Change). Answers ls None [] s (record { reading = Corrected (OneCard j n); change = x })) (sym qd)
+        subst (λ (x : Change). Answers ls None [] s (Ok (record { kind = OneCard j n; change = x }))) (sym qd)
         (correction ls None [] s (OneCard j n) (rows_only (rows_of s) j) (rows_formed (rows_of s) j hj)
         (λ b k. subst (λ (x : ℕ). Reads ls None [] b b (in_card j x) (applied b (rows_only (rows_of s) j))) (sym same_n)
         (card_reads ls ok [] tt b k.block j hj (rows_only (rows_of s) j) (within_alone (rows_of s) j []) (kept e b k) (looked b k))))

@@ -10,24 +10,25 @@ use mathlib.Core.List.{List}
 use Prim.Native.Nat.{ℕ, zero, suc, ◌+◌, ◌/◌, ◌<◌, ◌≤◌}
 use native.Mathlib.Omega.{arith}
 use lib.ListN.{length}
+use Rattle.std.proofs.lemmas.Bool.{cases_eq}
+use Rattle.std.specs.Prelude.{Option, Some, None}
 use Rattle.base.specs.Base.{In, Few}
-use Rattle.base.proofs.Tests.{same}
 use Rattle.answer.specs.Answer.{in_card, refused, refused_card}
 use Rattle.code.specs.Block.{Block, OneMember}
 use Rattle.code.specs.Labels.{LabelSet}
 use Rattle.code.specs.Reach.{rules, Beside, keep, Reached}
 use Rattle.code.proofs.Few.{in_keep, keep_in, keep_beside, widen}
-use Rattle.marks.specs.declared.CardMark.TheVariants.{None}
+use Rattle.std.specs.Prelude.{None}
 use Rattle.change.specs.Change.{applied, weight}
 use Rattle.change.specs.declared.Change.{Change}
 use Rattle.change.proofs.Weight.{changes_weight, unmoved, moved}
 use Rattle.reading.specs.Allowed.{further, ChipKind}
-use Rattle.reading.specs.Reading.{S, LowestReaching, reading_answer, Reads}
-use Rattle.reading.specs.declared.Reading.TheVariants.{Corrected}
+use Rattle.reading.specs.Reading.{S, reading_answer, Reads}
+use Rattle.std.specs.Prelude.{Ok}
 use Rattle.reading.proofs.Searches.{covered, covers}
 use Rattle.reading.proofs.Facts.{chip_one, reached_one, apart, by_marked, reaches, reached_by}
 use Rattle.decode.specs.Equations.{Within}
-use Rattle.decode.specs.Search.{strays, chips_kind, NoneBut, Looked}
+use Rattle.decode.specs.Search.{strays, chips_kind, NoneBut, Looked, LookedTwice}
 use Rattle.decode.proofs.Kind.{formed, chip_yes, chip_no}
 
 -- ---- the chips on card j itself make no difference
@@ -57,7 +58,7 @@ module _ (ls : List ℕ) (j : ℕ) (ps b x : List ℕ) where
 module _ (ls : List ℕ) (ok : LabelSet ls) (ps : List ℕ) (few : Few rules ps) (b : List ℕ) where
   -- ---- one card more
   more : (j : ℕ) (P : ℕ → Type 0) → (P j ⊎ ((x : List ℕ) → Reached ls j ps b x → ⊥)) → NoneBut ls ps b j P → NoneBut ls ps b (j + 1) P
-  more j P n h i l ne x r = pick (same i j)
+  more j P n h i l ne x r = pick (cases_eq i j)
     where
       here : i ≡ j → P j ⊎ ((y : List ℕ) → Reached ls j ps b y → ⊥) → ⊥
       here q (inl z) = ne (subst P (sym q) z)
@@ -67,16 +68,15 @@ module _ (ls : List ℕ) (ok : LabelSet ls) (ps : List ℕ) (few : Few rules ps)
       pick (inl q) = here q n
       pick (inr q) = h i (omega arith) ne x r
 
-  pub passed : (j found card : ℕ) → ((x : List ℕ) → Reached ls j ps b x → ⊥) → Looked ls ps b j found card → Looked ls ps b (j + 1) found card
-  passed j zero card n h = more j (λ i. ⊥) (inr n) h
-  passed j (suc zero) card n h = (omega (arith, h.0), h.1, more j (λ i. i ≡ card) (inr n) h.2)
-  passed j (suc (suc f)) card n h = h
+  pub passed : (j : ℕ) (found : Option ℕ) → ((x : List ℕ) → Reached ls j ps b x → ⊥) → Looked ls ps b j found → Looked ls ps b (j + 1) found
+  passed j None n h = more j (λ i. ⊥) (inr n) h
+  passed j (Some card) n h = (omega (arith, h.0), h.1, more j (λ i. i ≡ card) (inr n) h.2)
 
-  pub first_found : (j : ℕ) (x : List ℕ) → Reached ls j ps b x → (ChipKind ps b x → ⊥) → (card : ℕ) → Looked ls ps b j 0 card → Looked ls ps b (j + 1) 1 j
-  first_found j x r n card h = (omega arith, (x, r, n), more j (λ i. i ≡ j) (inl refl) (λ i l ne. h i l (λ z. z)))
+  pub first_found : (j : ℕ) (x : List ℕ) → Reached ls j ps b x → (ChipKind ps b x → ⊥) → Looked ls ps b j None → Looked ls ps b (j + 1) (Some j)
+  first_found j x r n h = (omega arith, (x, r, n), more j (λ i. i ≡ j) (inl refl) (λ i l ne. h i l (λ z. z)))
 
-  pub second_found : (j i : ℕ) → j < 5 → (x : List ℕ) → Reached ls j ps b x → (card : ℕ) → Looked ls ps b j 1 card → Looked ls ps b i 2 card
-  second_found j i hj x r card (below, (y, q, n), none) = (
+  pub second_found : (j : ℕ) → j < 5 → (x : List ℕ) → Reached ls j ps b x → (card : ℕ) → Looked ls ps b j (Some card) → LookedTwice ls ps b card
+  second_found j hj x r card (below, (y, q, n), none) = (
     (
       y,
       x,
@@ -89,11 +89,11 @@ module _ (ls : List ℕ) (ok : LabelSet ls) (ps : List ℕ) (few : Few rules ps)
   )
 
   -- ---- the answers
-  pub none_reads : (card : ℕ) → Looked ls ps b 5 0 card → Reads ls None ps b b (refused 10) b
-  none_reads card h = (refl, (λ y m. let w = covered ls ps b y m in h w.0 w.1 (λ z. z) y w.2), refl)
+  pub none_reads : Looked ls ps b 5 None → Reads ls None ps b b (refused 10) b
+  none_reads h = (refl, (λ y m. let w = covered ls ps b y m in h w.0 w.1 (λ z. z) y w.2), refl)
 
-  pub several_reads : (card : ℕ) → Looked ls ps b 5 2 card → (j : ℕ) → j ≡ card → Reads ls None ps b b (refused_card 11 j) b
-  several_reads card h j e = (refl, h.0, subst (LowestReaching ls ps b) (sym e) h.1, refl)
+  pub several_reads : (card : ℕ) → LookedTwice ls ps b card → Reads ls None ps b b (refused_card 11 card) b
+  several_reads card h = (refl, h.0, h.1, refl)
 
   module _ (bb : Block b) (j : ℕ) (hj : j < 5) (d : Change) (w : Within j (keep j ps) d) (r : Reached ls j (keep j ps) b (applied b d)) where
     off : Beside j (keep j ps)
@@ -105,10 +105,10 @@ module _ (ls : List ℕ) (ok : LabelSet ls) (ps : List ℕ) (few : Few rules ps)
     pub not_chips : further (length ps) < strays d ps → ChipKind ps b (applied b d) → ⊥
     not_chips = chip_no d j hj (keep j ps) w off b bb.long ps (λ p i. keep_in j p ps i)
 
-    pub card_reads : Looked ls ps b 5 1 j → Reads ls None ps b b (in_card j (weight d)) (applied b d)
+    pub card_reads : Looked ls ps b 5 (Some j) → Reads ls None ps b b (in_card j (weight d)) (applied b d)
     card_reads (below, (x, q, n), none) =
         let e : x ≡ applied b d = reached_one ls ok ps few b j hj x (applied b d) q reached in (
-          (covers ls ps b (applied b d) j hj reached, λ y m. let v = covered ls ps b y m in pick y v.0 v.1 v.2 (same v.0 j)),
+          (covers ls ps b (applied b d) j hj reached, λ y m. let v = covered ls ps b y m in pick y v.0 v.1 v.2 (cases_eq v.0 j)),
           sym (changes_weight d (formed d j hj (keep j ps) w off) b bb.long),
           subst (λ (z : List ℕ). ChipKind ps b z → ⊥) e n,
           (hj, reached.only),
@@ -118,7 +118,7 @@ module _ (ls : List ℕ) (ok : LabelSet ls) (ps : List ℕ) (few : Few rules ps)
         pick y i hi v (inl z) = reached_one ls ok ps few b j hj y (applied b d) (subst (λ (k : ℕ). Reached ls k ps b y) z v) reached
         pick y i hi v (inr z) = absurd (none i hi z y v)
 
-    pub chips_reads : strays d ps ≤ further (length ps) → Reads ls None ps b b (reading_answer (Corrected (chips_kind (weight d)))) (applied b d)
+    pub chips_reads : strays d ps ≤ further (length ps) → Reads ls None ps b b (reading_answer (Ok (chips_kind (weight d)))) (applied b d)
     chips_reads h = go (weight d) refl
       where
         chips : ChipKind ps b (applied b d)
@@ -127,7 +127,7 @@ module _ (ls : List ℕ) (ok : LabelSet ls) (ps : List ℕ) (few : Few rules ps)
         one : OneMember (S ls None ps b) (applied b d)
         one = chip_one ls ok ps few b None tt (applied b d) (covers ls ps b (applied b d) j hj reached) chips
 
-        go : (n : ℕ) → weight d ≡ n → Reads ls None ps b b (reading_answer (Corrected (chips_kind n))) (applied b d)
+        go : (n : ℕ) → weight d ≡ n → Reads ls None ps b b (reading_answer (Ok (chips_kind n))) (applied b d)
         go zero e = (one, unmoved d (formed d j hj (keep j ps) w off) b bb.long e)
         go (suc n) e = (
           one,

@@ -15,8 +15,9 @@ use lib.Dec.{T, eqb}
 use borrow.Author.Tests.{eq-eqb, ne_eqb}
 use lib.ListN.{length, get_or, set, length-set}
 use lib.Seq.{get_or-set_same, get_or-set_other}
+use Rattle.std.proofs.lemmas.Bool.{cases_eq}
 use Rattle.base.specs.Base.{if}
-use Rattle.base.proofs.Tests.{both, same}
+use Rattle.base.proofs.Tests.{both}
 use Rattle.field.specs.Field.{sum, ◌⊕◌, ◌·◌}
 use Rattle.field.proofs.Xor.{add_zero, sums}
 use Rattle.field.proofs.Sum.{sum_add, sum_ext, sum_zero, sum_one}
@@ -36,11 +37,11 @@ use Rattle.decode.specs.Equations.{KnownAt, fits_by, rows_only, Solves}
 row_patch : (y : ℕ → ℕ) (p e i : ℕ) → p < 45 → i < 9 → row (patch y p e) i ≡ row y i ⊕ if (eqb i (p % 9)) e 0
 unfolding patch
 row_patch y p e i hp hi =
-    sum_add 5 (λ k. y (position k i)) (λ k. if (eqb (position k i) p) e 0) ∙ ap (λ (z : ℕ). row y i ⊕ z) (pick (same i (p % 9)))
+    sum_add 5 (λ k. y (position k i)) (λ k. if (eqb (position k i) p) e 0) ∙ ap (λ (z : ℕ). row y i ⊕ z) (pick (cases_eq i (p % 9)))
   where
     pick : (i ≡ p % 9) ⊎ (i ≢ p % 9) → sum 5 (λ k. if (eqb (position k i) p) e 0) ≡ if (eqb i (p % 9)) e 0
     pick (inl q) =
-        sum_ext 5 (λ k. if (eqb (position k i) p) e 0) (λ k. if (eqb k (p / 9)) e 0) (λ k l. ap (λ (t : Bool). if t e 0) (alike k (same k (p / 9))))
+        sum_ext 5 (λ k. if (eqb (position k i) p) e 0) (λ k. if (eqb k (p / 9)) e 0) (λ k l. ap (λ (t : Bool). if t e 0) (alike k (cases_eq k (p / 9))))
         ∙ sum_one 5 (p / 9) (λ k. e) (omega arith) ∙ sym (ap (λ (t : Bool). if t e 0) (eq-eqb i (p % 9) q))
       where
         alike : (k : ℕ) → (k ≡ p / 9) ⊎ (k ≢ p / 9) → eqb (position k i) p ≡ eqb k (p / 9)
@@ -51,7 +52,7 @@ row_patch y p e i hp hi =
         ∙ sym (ap (λ (t : Bool). if t e 0) (ne_eqb i (p % 9) q))
 
 bump_at : (r : List ℕ) (p e i : ℕ) → length r ≡ 9 → get_or (set r (p % 9) (get_or r (p % 9) 0 ⊕ e)) i 0 ≡ get_or r i 0 ⊕ if (eqb i (p % 9)) e 0
-bump_at r p e i l = pick (same i (p % 9))
+bump_at r p e i l = pick (cases_eq i (p % 9))
   where
     pick : (i ≡ p % 9) ⊎ (i ≢ p % 9) → get_or (set r (p % 9) (get_or r (p % 9) 0 ⊕ e)) i 0 ≡ get_or r i 0 ⊕ if (eqb i (p % 9)) e 0
     pick (inl q) =

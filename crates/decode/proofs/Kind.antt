@@ -3,7 +3,7 @@
 --   formed                    such a change is well formed
 --   card_changed, card_kept   it changes a byte of its card exactly where it has a row that is not 0
 --   chip_yes, chip_no         where its chips are marked, it is of the chip kind exactly where it has few enough strays
---   some_chips, no_card, some_card   the kind as the code tells it
+--   no_card, some_card        the kind as the code tells it
 use mathlib.Core.Logic.{◌≢◌, ◌⊎◌, inl, inr}
 use mathlib.Core.Path.{◌≡◌, refl, sym, ap, ap₂, ◌∙◌, subst}
 use mathlib.Core.Bool.{Bool, true, false, ◌&&◌, not}
@@ -13,8 +13,8 @@ use native.Mathlib.Omega.{arith}
 use lib.Dec.{eqb}
 use lib.ListN.{length, get_or}
 use borrow.Author.Tests.{eqb-true, ne_eqb, not-true, not-false}
+use Rattle.std.proofs.lemmas.Bool.{and_parts, cases_eq}
 use Rattle.base.specs.Base.{if, In, is_in, tally}
-use Rattle.base.proofs.Tests.{same, and_true}
 use Rattle.base.proofs.Lists.{in_is_in, is_in_in}
 use Rattle.base.proofs.Tally.{clash, tally_none, tally_one, tally_some, tally_two}
 use Rattle.field.specs.Field.{◌⊕◌}
@@ -27,7 +27,7 @@ use Rattle.change.specs.declared.Change.{Change}
 use Rattle.change.proofs.Weight.{nonzero_is, nonzero_ne, same_at, other_at, on_card, off_card}
 use Rattle.reading.specs.Allowed.{further, ChipKind, CardChanged}
 use Rattle.reading.specs.declared.Kind.{Kind}
-use Rattle.reading.specs.declared.Kind.TheVariants.{Chips, OneCard}
+use Rattle.reading.specs.declared.Kind.TheVariants.{OneCard}
 use Rattle.reading.proofs.Searches.{further_one}
 use Rattle.decode.specs.Equations.{Within}
 use Rattle.decode.specs.Search.{stray, strays, chips_kind, card_kind}
@@ -49,7 +49,7 @@ module _ (d : Change) (j : ℕ) (hj : j < 5) (qs : List ℕ) (w : Within j qs d)
 
   -- off the card a changed byte is one of the chips
   further_in : (r : ℕ) → r / 9 ≢ d.card → adds d r ≢ 0 → In r qs
-  further_in r h ne = pick (same r d.p) w.first
+  further_in r h ne = pick (cases_eq r d.p) w.first
     where
       nothing : (t u : Bool) (e f : ℕ) → if t e 0 ≡ 0 → if u f 0 ≡ 0 → if t e 0 ⊕ if u f 0 ≡ 0
       nothing t u e f p q = ap₂ (λ (x y : ℕ). x ⊕ y) p q ∙ add_self 0
@@ -74,8 +74,8 @@ module _ (d : Change) (j : ℕ) (hj : j < 5) (qs : List ℕ) (w : Within j qs d)
 
       pick : (r ≡ d.p) ⊎ (r ≢ d.p) → (d.e ≡ 0) ⊎ In d.p qs → In r qs
       pick (inl e) (inr i) = at d.p i e
-      pick (inl e) (inl z) = rest (zero_if (eqb r d.p) d.e z) (same r d.q) w.second
-      pick (inr n) s = rest (else_if d.p d.e n) (same r d.q) w.second
+      pick (inl e) (inl z) = rest (zero_if (eqb r d.p) d.e z) (cases_eq r d.q) w.second
+      pick (inr n) s = rest (else_if d.p d.e n) (cases_eq r d.q) w.second
 
   -- ---- its card
   place : (i : ℕ) → i < 9 → ((9 * d.card + i) / 9 ≡ d.card) × ((9 * d.card + i) % 9 ≡ i) × (9 * d.card + i < 45)
@@ -106,7 +106,7 @@ module _ (d : Change) (j : ℕ) (hj : j < 5) (qs : List ℕ) (w : Within j qs d)
       sort : (fs : List ℕ) (p : ℕ) → p < 45 → (p / 9 ≡ d.card → stray d ps (p % 9) ≡ true → In p fs)
           → (byte b p ≡ byte (applied b d) p) ⊎ (In p ps ⊎ In p fs)
       unfolding stray
-      sort fs p hp f = pick (same (adds d p) 0) (same (p / 9) d.card)
+      sort fs p hp f = pick (cases_eq (adds d p) 0) (cases_eq (p / 9) d.card)
         where
           at : p / 9 ≡ d.card → 9 * d.card + p % 9 ≡ p
           at h = omega arith
@@ -129,7 +129,7 @@ module _ (d : Change) (j : ℕ) (hj : j < 5) (qs : List ℕ) (w : Within j qs d)
       forced fs c i h e = go (c (9 * d.card + i) (place i h).2)
         where
           both : (nonzero_at d.rows i ≡ true) × (not (is_in (9 * d.card + i) ps) ≡ true)
-          both = and_true (nonzero_at d.rows i) (not (is_in (9 * d.card + i) ps)) e
+          both = and_parts (nonzero_at d.rows i) (not (is_in (9 * d.card + i) ps)) e
 
           go : (byte b (9 * d.card + i) ≡ byte (applied b d) (9 * d.card + i)) ⊎ (In (9 * d.card + i) ps ⊎ In (9 * d.card + i) fs) → In (9 * d.card + i) fs
           go (inl z) = absurd (row_moves i h both.0 z)
@@ -137,7 +137,7 @@ module _ (d : Change) (j : ℕ) (hj : j < 5) (qs : List ℕ) (w : Within j qs d)
           go (inr (inr z)) = z
 
       pub chip_yes : strays d ps ≤ further (length ps) → ChipKind ps b (applied b d)
-      chip_yes h = pick (same (strays d ps) 0)
+      chip_yes h = pick (cases_eq (strays d ps) 0)
         where
           pick : (strays d ps ≡ 0) ⊎ (strays d ps ≢ 0) → ChipKind ps b (applied b d)
           pick (inl z) =
@@ -167,10 +167,6 @@ module _ (d : Change) (j : ℕ) (hj : j < 5) (qs : List ℕ) (w : Within j qs d)
       chip_no h (f ∷ g ∷ fs, n, c) = absurd (omega (arith, n, further_one (length ps)))
 
 -- ---- as the code tells it
-pub some_chips : (n : ℕ) → n ≢ 0 → Chips n ≡ chips_kind n
-some_chips zero ne = absurd (ne refl)
-some_chips (suc n) ne = refl
-
 pub no_card : (j own n own' n' : ℕ) (k : Kind) → own ≡ 0 → own ≡ own' → n ≡ n' → k ≡ chips_kind n → k ≡ card_kind j own' n'
 no_card j own n own' n' k z e f h = h ∙ ap chips_kind f ∙ sym (ap (λ (x : ℕ). card_kind j x n') (sym e ∙ z))
 

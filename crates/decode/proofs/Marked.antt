@@ -1,23 +1,23 @@
 -- The marked chips off a card, case by case as the code goes; and strays.
 --
 --   on, off                        one chip, on card j or off it
---   none_marked, one_marked, second_on, first_on, both_off   the marked chips off card j, by their count and their cards
---   not_changed, if_unmarked       a row that is changed, and whose chip is not marked
+--   none_marked, second_on, first_on, both_off   the marked chips off card j, by their count and their cards
+--   is_stray                       a row that is changed, and whose chip is not marked
 use mathlib.Core.Logic.{◌≢◌}
-use mathlib.Core.Path.{◌≡◌, refl, sym, ap, ap₂, ◌∙◌}
-use mathlib.Core.Bool.{Bool, false, ◌&&◌, not}
+use mathlib.Core.Path.{◌≡◌, sym, ap, ap₂, ◌∙◌}
+use mathlib.Core.Bool.{Bool, ◌&&◌, not}
 use mathlib.Core.List.{List, [], ◌∷◌}
 use Prim.Native.Nat.{ℕ, ◌+◌, ◌*◌, ◌/◌}
 use lib.Dec.{eqb}
 use lib.ListN.{get_or}
 use borrow.Author.Tests.{eq-eqb, ne_eqb}
-use Rattle.base.specs.Base.{if, is_in}
+use Rattle.base.specs.Base.{if}
 use Rattle.code.specs.Reach.{keep}
 use Rattle.marks.specs.Marks.{chips_of, marked_chips, is_marked}
 use Rattle.marks.specs.declared.Marks.{Marks}
 use Rattle.marks.proofs.Chips.{chips_many}
 use Rattle.change.specs.declared.Change.{Change}
-use Rattle.change.proofs.Weight.{zero_not, nonzero_is}
+use Rattle.change.specs.Change.{nonzero}
 use Rattle.decode.specs.Search.{stray}
 
 pub on : (p j : ℕ) → p / 9 ≡ j → [] ≡ keep j (p ∷ [])
@@ -31,9 +31,6 @@ off p j e = ap (λ (t : Bool). if t [] (p ∷ [])) (sym (ne_eqb (p / 9) j e))
 pub none_marked : (n a s j : ℕ) → n ≡ 0 → [] ≡ keep j (chips_of n a s)
 unfolding keep
 none_marked n a s j e = ap (λ (z : ℕ). keep j (chips_of z a s)) (sym e)
-
-pub one_marked : (n a s j : ℕ) (l : List ℕ) → n ≡ 1 → l ≡ keep j (a ∷ []) → l ≡ keep j (chips_of n a s)
-one_marked n a s j l e h = h ∙ ap (λ (z : ℕ). keep j (chips_of z a s)) (sym e)
 
 module _ (n a s j : ℕ) (n₀ : n ≢ 0) (n₁ : n ≢ 1) where
   two : keep j (a ∷ s ∷ []) ≡ keep j (chips_of n a s)
@@ -52,15 +49,7 @@ module _ (n a s j : ℕ) (n₀ : n ≢ 0) (n₁ : n ≢ 1) where
   both_off p q = ap₂ (λ (t u : Bool). if t (if u [] (s ∷ [])) (a ∷ if u [] (s ∷ []))) (sym (ne_eqb (a / 9) j p)) (sym (ne_eqb (s / 9) j q)) ∙ two
 
 -- ---- strays
-module _ (d : Change) (ps : List ℕ) (i : ℕ) where
-  pub not_changed : get_or d.rows i 0 ≡ 0 → false ≡ stray d ps i
-  unfolding stray
-  not_changed e = sym (ap (λ (t : Bool). t && not (is_in (9 * d.card + i) ps)) (zero_not (get_or d.rows i 0) e))
-
-  pub if_unmarked : (t : Bool) → get_or d.rows i 0 ≢ 0 → t ≡ is_in (9 * d.card + i) ps → not t ≡ stray d ps i
-  unfolding stray
-  if_unmarked t ne e = ap not e ∙ sym (ap (λ (z : Bool). z && not (is_in (9 * d.card + i) ps)) (nonzero_is (get_or d.rows i 0) ne))
-
-pub marked_as : (m : Marks) (p : ℕ) → is_marked m p ≡ is_in p (marked_chips m)
-unfolding is_marked
-marked_as m p = refl
+pub is_stray : (d : Change) (m : Marks) (i : ℕ) (t : Bool) → t ≡ (nonzero (get_or d.rows i 0) && not (is_marked m (9 * d.card + i)))
+    → t ≡ stray d (marked_chips m) i
+unfolding stray is_marked
+is_stray d m i t e = e

@@ -1,32 +1,29 @@
--- The equations' steps as the code goes: quotients, chips by their count, and a chip sought by its entry.
+-- The equations' steps as the code goes: quotients, and a chip sought by its entry.
 --
 --   quotient                    s times the inverse of d, times d, is s
 --   first_by, second_by         two unknowns, from the steps of the code
---   fits_none, fits_one, fits_many   the test, by the number of chips; one_fits: what it says of one
 --   and_first, and_not          a test of two sums
---   of_count, by_count, to_two, by_two   what holds of chips by their count, and back
---   one_more                    what holds below i and at i holds below i + 1
---   further_none, further_off   no chip has the entry that the sums ask for; this one has it
-use mathlib.Core.Logic.{◌≢◌, ◌⊎◌, inl, inr}
-use mathlib.Core.Path.{◌≡◌, sym, ap, ap₂, ◌∙◌, subst}
+--   one_fits                    what the test says of one chip
+--   has_entry, no_entry         a chip has the entry v, or not, by its label
+--   further_none, further_zero, further_off   no chip has the entry that the sums ask for; it is 0; this one has it
+use mathlib.Core.Logic.{◌≢◌}
+use mathlib.Core.Path.{◌≡◌, sym, ap, ap₂, ◌∙◌}
 use mathlib.Core.Bool.{Bool, true, ◌&&◌}
 use mathlib.Core.List.{List, [], ◌∷◌}
 use Prim.Native.Nat.{ℕ, ◌+◌, ◌*◌, ◌/◌, ◌%◌, ◌^◌, ◌<◌}
 use native.Mathlib.Omega.{arith}
 use lib.Dec.{eqb}
+use Rattle.std.specs.Prelude.{Some, None}
 use borrow.Author.Tests.{eq-eqb, ne_eqb, eqb-true}
-use Rattle.base.proofs.Tests.{same}
 use Rattle.field.specs.Field.{◌⊕◌, ◌·◌}
 use Rattle.field.proofs.IsField.{IsField}
 use Rattle.field.proofs.Gf256.{field}
 use Rattle.field.proofs.Ring.{ring, zero_mul, mul_zero}
-use Rattle.field.proofs.Xor.{add_self, add_lt}
+use Rattle.field.proofs.Xor.{add_self, add_self_left, add_comm, add_lt}
 use Rattle.code.specs.Block.{byte}
 use Rattle.code.specs.Labels.{entry, LabelSet}
 use Rattle.field.proofs.Quotient.{quot_only}
 use Rattle.code.proofs.Blocks.{label_below}
-use Rattle.marks.specs.Marks.{chips_of}
-use Rattle.marks.proofs.Chips.{chips_many}
 use Rattle.decode.specs.Equations.{fits_by, Further}
 
 -- ---- quotients
@@ -65,52 +62,29 @@ pub by_entries : (c c' d d' e f t₁ t₂ : ℕ) → c ≡ c' → d ≡ d'
     → (c' · (c' ⊕ d') ≢ 0 → (c' · (c' ⊕ d')) · e ≡ t₂ ⊕ (d' · t₁)) × (c' · (c' ⊕ d') ≢ 0 → d' ≢ 0 → d' · f ≡ t₁ ⊕ (c' · e))
 by_entries c c' d d' e f t₁ t₂ p q h g = rw (← p, ← q) (h, g)
 
--- ---- chips by their count
+-- ---- the test
 pub and_first : (a : ℕ) (t : Bool) → a ≡ 0 → t ≡ eqb a 0 && t
 and_first a t e = ap (λ (z : Bool). z && t) (sym (eq-eqb a 0 e))
 
 pub and_not : (a : ℕ) (t : Bool) → a ≢ 0 → eqb a 0 ≡ eqb a 0 && t
 and_not a t e = ne_eqb a 0 e ∙ ap (λ (z : Bool). z && t) (sym (ne_eqb a 0 e))
 
-module _ (ls : List ℕ) (j n p q t₁ t₂ : ℕ) where
-  pub fits_none : n ≡ 0 → eqb t₁ 0 && eqb t₂ 0 ≡ fits_by ls j (chips_of n p q) t₁ t₂
-  unfolding fits_by
-  fits_none e = sym (ap (λ (k : ℕ). fits_by ls j (chips_of k p q) t₁ t₂) e)
-
-  pub fits_one : n ≡ 1 → eqb t₂ (entry ls j p · t₁) ≡ fits_by ls j (chips_of n p q) t₁ t₂
-  unfolding fits_by
-  fits_one e = sym (ap (λ (k : ℕ). fits_by ls j (chips_of k p q) t₁ t₂) e)
-
-  pub fits_many : n ≢ 0 → n ≢ 1 → true ≡ fits_by ls j (chips_of n p q) t₁ t₂
-  unfolding fits_by
-  fits_many n₀ n₁ = sym (ap (λ (l : List ℕ). fits_by ls j l t₁ t₂) (chips_many n p q n₀ n₁))
-
-  pub one_fits : n ≡ 1 → fits_by ls j (chips_of n p q) t₁ t₂ ≡ true → t₂ ≡ entry ls j p · t₁
-  one_fits e t = eqb-true t₂ (entry ls j p · t₁) (fits_one e ∙ t)
-
-pub of_count : (P : List ℕ → Type 0) (n k p q : ℕ) → n ≡ k → P (chips_of n p q) → P (chips_of k p q)
-of_count P n k p q e h = subst (λ (m : ℕ). P (chips_of m p q)) e h
-
-pub by_count : (P : List ℕ → Type 0) (n k p q : ℕ) → n ≡ k → P (chips_of k p q) → P (chips_of n p q)
-by_count P n k p q e h = subst (λ (m : ℕ). P (chips_of m p q)) (sym e) h
-
-pub by_two : (P : List ℕ → Type 0) (n p q : ℕ) → n ≢ 0 → n ≢ 1 → P (p ∷ q ∷ []) → P (chips_of n p q)
-by_two P n p q n₀ n₁ h = subst P (sym (chips_many n p q n₀ n₁)) h
-
-pub to_two : (P : List ℕ → Type 0) (n p q : ℕ) → n ≢ 0 → n ≢ 1 → P (chips_of n p q) → P (p ∷ q ∷ [])
-to_two P n p q n₀ n₁ h = subst P (chips_many n p q n₀ n₁) h
+pub one_fits : (ls : List ℕ) (j p t₁ t₂ : ℕ) → fits_by ls j (p ∷ []) t₁ t₂ ≡ true → t₂ ≡ entry ls j p · t₁
+unfolding fits_by
+one_fits ls j p t₁ t₂ t = eqb-true t₂ (entry ls j p · t₁) t
 
 -- ---- a chip sought by its entry
-pub one_more : (P : ℕ → Type 0) (i : ℕ) → ((h : ℕ) → h < i → P h) → P i → (h : ℕ) → h < i + 1 → P h
-one_more P i h p k l = go (same k i)
-  where
-    go : (k ≡ i) ⊎ (k ≢ i) → P k
-    go (inl e) = subst P (sym e) p
-    go (inr e) = h k (omega arith)
+-- the entry of card m's chip i is v exactly where its label is the sum of v and the label of the card's own chip i, as the code makes it
+module _ (ls : List ℕ) (j m i v wanted : ℕ) (l : i < 9) (e : wanted ≡ byte ls (9 * j + i) ⊕ v) where
+  entry_is : entry ls j (9 * m + i) ≡ byte ls (9 * j + i) ⊕ byte ls (9 * m + i)
+  entry_is = let q : (9 * m + i) % 9 ≡ i = omega arith in
+      ap (λ (k : ℕ). byte ls (9 * m + i) ⊕ byte ls (9 * j + k)) q ∙ add_comm (byte ls (9 * m + i)) (byte ls (9 * j + i))
 
--- the entry of card m's chip i, as the code adds it
-pub entry_on : (ls : List ℕ) (j m i v : ℕ) → i < 9 → v ≡ byte ls (9 * m + i) ⊕ byte ls (9 * j + i) → v ≡ entry ls j (9 * m + i)
-entry_on ls j m i v l e = let q : (9 * m + i) % 9 ≡ i = omega arith in e ∙ ap (λ (k : ℕ). byte ls (9 * m + i) ⊕ byte ls (9 * j + k)) (sym q)
+  pub has_entry : byte ls (9 * m + i) ≡ wanted → entry ls j (9 * m + i) ≡ v
+  has_entry h = entry_is ∙ ap (λ (x : ℕ). byte ls (9 * j + i) ⊕ x) (h ∙ e) ∙ add_self_left (byte ls (9 * j + i)) v
+
+  pub no_entry : byte ls (9 * m + i) ≢ wanted → entry ls j (9 * m + i) ≢ v
+  no_entry n h = n (sym (add_self_left (byte ls (9 * j + i)) (byte ls (9 * m + i))) ∙ ap (λ (x : ℕ). byte ls (9 * j + i) ⊕ x) (sym entry_is ∙ h) ∙ sym e)
 
 entry_lt : (ls : List ℕ) → LabelSet ls → (j p : ℕ) → entry ls j p < 2 ^ 8
 entry_lt ls set j p = add_lt 8 (byte ls p) (byte ls (9 * j + p % 9)) (label_below ls set p) (label_below ls set (9 * j + p % 9))
@@ -122,21 +96,17 @@ module _ (ls : List ℕ) (set : LabelSet ls) (j : ℕ) (hj : j < 5) (t₁ t₂ v
       quot_only 8 ◌·◌ field t₂ t₁ (entry ls j p) h₁ (entry_lt ls set j p) n (field.comm t₁ (entry ls j p) ∙ sym e)
       ∙ sym (quot_only 8 ◌·◌ field t₂ t₁ v h₁ hv n q)
 
-  pub further_off : (p : ℕ) → p < 45 → entry ls j p ≡ v → Further ls j t₁ t₂ p
-  further_off p hp e = record {
-    below = hp;
-    off = λ ne. sym q ∙ field.comm t₁ v ∙ ap (λ (x : ℕ). x · t₁) (sym e);
-    none = λ on i hi ni z. set.separated.nonzero j i hj hi ni (is_wanted i z ∙ sym e ∙ own_zero on);
-  }
+  pub further_off : (p : ℕ) → p < 45 → v ≢ 0 → entry ls j p ≡ v → Further ls j t₁ t₂ (Some p)
+  further_off p hp nv e = (hp, (λ on. nv (sym e ∙ own_zero on)), sym q ∙ field.comm t₁ v ∙ ap (λ (x : ℕ). x · t₁) (sym e))
     where
       own_zero : p / 9 ≡ j → entry ls j p ≡ 0
       own_zero on = let r : 9 * j + p % 9 ≡ p = omega (arith, on) in ap (λ (k : ℕ). byte ls p ⊕ byte ls k) r ∙ add_self (byte ls p)
 
-  pub further_none : (p : ℕ) → p ≡ 9 * j → ((m : ℕ) → m < 5 → (i : ℕ) → i < 9 → entry ls j (9 * m + i) ≢ v) → Further ls j t₁ t₂ p
-  further_none p e none = record {
-    below = omega arith;
-    off = λ ne. absurd (ne (let z : p / 9 ≡ j = omega arith in z));
-    none = λ on i hi ni z.
-        let r : 9 * (i / 9) + i % 9 ≡ i = omega arith in
-        none (i / 9) (omega arith) (i % 9) (omega arith) (ap (entry ls j) r ∙ is_wanted i z);
-  }
+  -- where none has the entry; where it is 0, which is the card's own
+  pub further_none : ((i : ℕ) → i < 9 → (m : ℕ) → m < 5 → entry ls j (9 * m + i) ≢ v) → Further ls j t₁ t₂ None
+  further_none none i hi ni z =
+      let r : 9 * (i / 9) + i % 9 ≡ i = omega arith in
+      none (i % 9) (omega arith) (i / 9) (omega arith) (ap (entry ls j) r ∙ is_wanted i z)
+
+  pub further_zero : v ≡ 0 → Further ls j t₁ t₂ None
+  further_zero e i hi ni z = set.separated.nonzero j i hj hi ni (is_wanted i z ∙ e)

@@ -6,18 +6,18 @@
 --   Within          d changes card j and chips of qs only
 --   Solves          d reaches a lawful block, from every block with these rows and sums
 --   chips_off       the chips of OffCard
---   ChipOn, Further a chip that is found by its entry in card j's reduced matrix: on another card, on any
-use Rattle.std.specs.Prelude.{◌≡◌, Bool, true, ◌&&◌, ◌⊎◌, ◌≢◌, List, [], ◌∷◌, ℕ, ◌+◌, ◌*◌, ◌/◌, ◌≤◌, ◌<◌, eqb, get_or}
+--   Further         a chip that is found by its entry in card j's reduced matrix, or none
+use Rattle.std.specs.Prelude.{◌≡◌, Bool, true, ◌&&◌, ◌⊎◌, ◌≢◌, List, [], ◌∷◌, ℕ, ◌/◌, ◌<◌, eqb, get_or, Option, Some, None}
 use Rattle.base.specs.Base.{In}
 use Rattle.field.specs.Field.{◌·◌, sum}
 use Rattle.code.specs.Block.{byte, position, Block}
 use Rattle.code.specs.Labels.{entry, LabelSet}
 use Rattle.code.specs.Reach.{Reached}
-use Rattle.marks.specs.Marks.{chips_of}
 use Rattle.sums.specs.Sums.{ReducedSums}
 use Rattle.change.specs.Change.{applied}
 use Rattle.change.specs.declared.Change.{Change}
 use Rattle.decode.specs.declared.chips.OffCard.{OffCard}
+use Rattle.decode.specs.declared.chips.OffCard.TheVariants.{Zero, One, Two}
 
 pub record KnownAt (labels b z : List ℕ) (j t₁ t₂ : ℕ) : Type 0 where
   pub set : LabelSet labels
@@ -44,17 +44,12 @@ pub record Solves (labels z : List ℕ) (j : ℕ) (qs : List ℕ) (t₁ t₂ : �
   pub reached : (b : List ℕ) → KnownAt labels b z j t₁ t₂ → Reached labels j qs b (applied b d)
 
 abbrev pub chips_off : OffCard → List ℕ
-chips_off w = chips_of w.count w.first w.second
+chips_off Zero = []
+chips_off (One p) = p ∷ []
+chips_off (Two p q) = p ∷ q ∷ []
 
 -- ---- a chip by its entry
--- i is the first chip of another card whose entry is v; 9 where there is none
-pub record ChipOn (labels : List ℕ) (j other v i : ℕ) : Type 0 where
-  pub most : i ≤ 9
-  pub before : (h : ℕ) → h < i → entry labels j (9 * other + h) ≢ v
-  pub there : i < 9 → entry labels j (9 * other + i) ≡ v
-
--- p is a chip off card j whose column the sums are a multiple of; a chip of card j where there is none
-pub record Further (labels : List ℕ) (j t₁ t₂ p : ℕ) : Type 0 where
-  pub below : p < 45
-  pub off : p / 9 ≢ j → t₂ ≡ entry labels j p · t₁
-  pub none : p / 9 ≡ j → (i : ℕ) → i < 45 → i / 9 ≢ j → t₂ ≢ entry labels j i · t₁
+-- a chip off card j whose column the sums are a multiple of
+abbrev pub Further : List ℕ → ℕ → ℕ → ℕ → Option ℕ → Type 0
+Further labels j t₁ t₂ (Some p) = (p < 45) × (p / 9 ≢ j) × (t₂ ≡ entry labels j p · t₁)
+Further labels j t₁ t₂ None = (i : ℕ) → i < 45 → i / 9 ≢ j → t₂ ≢ entry labels j i · t₁

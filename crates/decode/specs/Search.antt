@@ -4,14 +4,14 @@
 --   SumsAt        t₁ and t₂ are the sums of card j's reduced matrix
 --   Alone         whether card j alone reaches a lawful block, and that the change of its rows does
 --   stray, strays the rows of a change's card that it changes, and whose chips are not among ps
---   Looked        what is held once the cards below j have been looked at, found being the number of blocks
---   Held          the same for every block with these sums, with the reduced sums of the one card that reaches one
+--   Looked        what is known once the cards below j have been looked at: none or one of them reaches a block; LookedTwice: two do
+--   Held          the same for every block with these sums, with the change of the one card that reaches one
 --   chips_kind    the kind of a chip-kind change of n bytes; card-kind: of a change beside a marked card, own being its bytes on that card
-use Rattle.std.specs.Prelude.{◌≡◌, Bool, true, false, ◌&&◌, not, List, [], ℕ, zero, suc, ◌+◌, ◌*◌, ◌<◌}
+use Rattle.std.specs.Prelude.{◌≡◌, Bool, true, false, ◌&&◌, not, List, [], ℕ, zero, suc, ◌+◌, ◌*◌, ◌<◌, Option, Some, None}
 use Rattle.base.specs.Base.{is_in, tally}
 use Rattle.code.specs.Block.{Block, TwoMembers}
 use Rattle.code.specs.Reach.{keep, Reached}
-use Rattle.marks.specs.declared.CardMark.TheVariants.{None}
+use Rattle.std.specs.Prelude.{None}
 use Rattle.sums.specs.Sums.{rows_of, IsSums, ReducedSums}
 use Rattle.sums.specs.declared.Sums.{Sums}
 use Rattle.change.specs.Change.{applied, nonzero_at}
@@ -20,7 +20,7 @@ use Rattle.reading.specs.Allowed.{ChipKind}
 use Rattle.reading.specs.Reading.{S, LowestReaching}
 use Rattle.reading.specs.declared.Kind.{Kind}
 use Rattle.reading.specs.declared.Kind.TheVariants.{Clean, Chips, OneCard}
-use Rattle.decode.specs.Equations.{fits_by, rows_only}
+use Rattle.decode.specs.Equations.{fits_by, rows_only, Solves}
 
 pub record Known (labels b : List ℕ) (s : Sums) : Type 0 where
   pub block : Block b
@@ -53,15 +53,21 @@ card_kind j (suc own) n = OneCard j n
 abbrev pub NoneBut : List ℕ → List ℕ → List ℕ → ℕ → (ℕ → Type 0) → Type 0
 NoneBut labels ps b j P = (i : ℕ) → i < j → (P i → ⊥) → (x : List ℕ) → Reached labels i ps b x → ⊥
 
--- none reaches a block; one does, not of the chip kind; two do, and card is the lowest that does
-abbrev pub Looked : List ℕ → List ℕ → List ℕ → ℕ → ℕ → ℕ → Type 0
-Looked labels ps b j zero card = NoneBut labels ps b j (λ i. ⊥)
-Looked labels ps b j (suc zero) card =
+-- none of them reaches a block; or one does, not of the chip kind
+abbrev pub Looked : List ℕ → List ℕ → List ℕ → ℕ → Option ℕ → Type 0
+Looked labels ps b j None = NoneBut labels ps b j (λ i. ⊥)
+Looked labels ps b j (Some card) =
     (card < j) × ((x : List ℕ) × Reached labels card ps b x × (ChipKind ps b x → ⊥)) × NoneBut labels ps b j (λ i. i ≡ card)
-Looked labels ps b j (suc (suc n)) card = TwoMembers (S labels None ps b) × LowestReaching labels ps b card
 
-pub record Held (labels : List ℕ) (s : Sums) (ps : List ℕ) (j found card t₁ t₂ : ℕ) : Type 0 where
-  pub below : card < 5
-  pub looked : (b : List ℕ) → Known labels b s → Looked labels ps b j found card
-  pub fits : found ≡ 1 → fits_by labels card (keep card ps) t₁ t₂ ≡ true
-  pub sums : found ≡ 1 → SumsAt labels s card t₁ t₂
+-- two cards do, and this is the lowest
+abbrev pub LookedTwice : List ℕ → List ℕ → List ℕ → ℕ → Type 0
+LookedTwice labels ps b card = TwoMembers (S labels None ps b) × LowestReaching labels ps b card
+
+-- the change by which one does solves for the chips off its card
+abbrev pub Held : List ℕ → Sums → List ℕ → ℕ → Option Change → Type 0
+Held labels s ps j None = (b : List ℕ) → Known labels b s → Looked labels ps b j None
+Held labels s ps j (Some d) =
+    (d.card < 5)
+    × ((b : List ℕ) → Known labels b s → Looked labels ps b j (Some d.card))
+    × ((t₁ : ℕ) × (t₂ : ℕ) × SumsAt labels s d.card t₁ t₂ × (fits_by labels d.card (keep d.card ps) t₁ t₂ ≡ true)
+    × Solves labels (rows_of s) d.card (keep d.card ps) t₁ t₂ d)

@@ -2,12 +2,10 @@
 --
 --   in_table           the entry for a, as the code takes it out of its word
 --   in_table_inverse   it is the inverse of a; in_table_zero: the entry for 0
---   none_below         a number that is none of 0, 1, .., n - 1 is at least n
 use mathlib.Core.Logic.{◌≢◌, ◌⊎◌, inl, inr}
 use mathlib.Core.Path.{◌≡◌, refl, ◌∙◌}
 use mathlib.Core.Bool.{Bool}
-use Prim.Native.Nat.{ℕ, zero, suc, ◌*◌, ◌/◌, ◌%◌, ◌^◌, ◌≤◌, ◌<◌}
-use native.Mathlib.Omega.{arith}
+use Prim.Native.Nat.{ℕ, ◌*◌, ◌/◌, ◌%◌, ◌^◌, ◌<◌}
 use lib.Dec.{T, eqb, eqb→eq}
 use lib.ListN.{get_or}
 use Rattle.field.specs.Field.{◌⊕◌, ◌·◌}
@@ -36,12 +34,3 @@ in_table_inverse a h ne = pick (either_cases (eqb a 0) (eqb (mul 7 0x1D a (in_ta
     pick : T (eqb a 0) ⊎ T (eqb (mul 7 0x1D a (in_table a)) 1) → a · in_table a ≡ 1
     pick (inl z) = absurd (ne (eqb→eq a 0 z))
     pick (inr t) = in_rounds a (in_table a) ∙ eqb→eq (mul 7 0x1D a (in_table a)) 1 t
-
--- what is left of a match on 0, 1, .., n - 1
-abbrev pub NoneBelow : ℕ → ℕ → Type 0
-NoneBelow zero h = Unit
-NoneBelow (suc n) h = NoneBelow n h × (h ≢ n)
-
-pub none_below : (n h : ℕ) → NoneBelow n h → n ≤ h
-none_below zero h p = omega arith
-none_below (suc n) h (p, ne) = let l = none_below n h p in omega arith

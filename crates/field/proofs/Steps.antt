@@ -34,31 +34,28 @@ module _ (k m : ℕ) where
       (λ q. sym (ap (λ (x : ℕ). (a * 2 % 2 ^ suc k) ⊕ x) (one-mul m)))
       (a / 2 ^ k % 2) (bit_lt (a / 2 ^ k)) (λ e. h (and_high a 1 k ∙ e))
 
-  round : (n x y : ℕ) → 0 < n → rounds k m n x y ≡ (y % 2 * x) ⊕ rounds k m (n - 1) (times_x k m x) (y / 2)
+  round : (n n' x y : ℕ) → n ≡ suc n' → rounds k m n x y ≡ (y % 2 * x) ⊕ rounds k m n' (times_x k m x) (y / 2)
   unfolding rounds
-  round zero x y h = absurd (not-suc-le-zero h)
-  round (suc n) x y h =
-      let e : n ≡ suc n - 1 = omega arith in
-      ap (λ (j : ℕ). (y % 2 * x) ⊕ rounds k m j (times_x k m x) (y / 2)) e
+  round n n' x y e = ap (λ (j : ℕ). rounds k m j x y) e
 
-  pub round_set : (n x y r r' x' : ℕ) → 0 < n → bit_and y 1 ≡ 1 → r' ≡ r ⊕ x → x' ≡ times_x k m x
-      → r' ⊕ rounds k m (n - 1) x' (y / 2) ≡ r ⊕ rounds k m n x y
-  round_set n x y r r' x' h b er ex =
-      ap₂ (λ (r' x' : ℕ). r' ⊕ rounds k m (n - 1) x' (y / 2)) er ex
-      ∙ add_assoc r x (rounds k m (n - 1) (times_x k m x) (y / 2))
-      ∙ ap (λ (d : ℕ). r ⊕ (d ⊕ rounds k m (n - 1) (times_x k m x) (y / 2))) (sym (one-mul x))
-      ∙ ap (λ (d : ℕ). r ⊕ ((d * x) ⊕ rounds k m (n - 1) (times_x k m x) (y / 2))) (sym b ∙ and_mask y 1)
-      ∙ ap (λ (z : ℕ). r ⊕ z) (sym (round n x y h))
+  pub round_set : (n n' x y r r' x' : ℕ) → n ≡ suc n' → bit_and y 1 ≡ 1 → r' ≡ r ⊕ x → x' ≡ times_x k m x
+      → r' ⊕ rounds k m n' x' (y / 2) ≡ r ⊕ rounds k m n x y
+  round_set n n' x y r r' x' e b er ex =
+      ap₂ (λ (r' x' : ℕ). r' ⊕ rounds k m n' x' (y / 2)) er ex
+      ∙ add_assoc r x (rounds k m n' (times_x k m x) (y / 2))
+      ∙ ap (λ (d : ℕ). r ⊕ (d ⊕ rounds k m n' (times_x k m x) (y / 2))) (sym (one-mul x))
+      ∙ ap (λ (d : ℕ). r ⊕ ((d * x) ⊕ rounds k m n' (times_x k m x) (y / 2))) (sym b ∙ and_mask y 1)
+      ∙ ap (λ (z : ℕ). r ⊕ z) (sym (round n n' x y e))
 
-  pub round_clear : (n x y r r' x' : ℕ) → 0 < n → (bit_and y 1 ≡ 1 → ⊥) → r' ≡ r → x' ≡ times_x k m x
-      → r' ⊕ rounds k m (n - 1) x' (y / 2) ≡ r ⊕ rounds k m n x y
-  round_clear n x y r r' x' h b er ex =
-      ap₂ (λ (r' x' : ℕ). r' ⊕ rounds k m (n - 1) x' (y / 2)) er ex
+  pub round_clear : (n n' x y r r' x' : ℕ) → n ≡ suc n' → (bit_and y 1 ≡ 1 → ⊥) → r' ≡ r → x' ≡ times_x k m x
+      → r' ⊕ rounds k m n' x' (y / 2) ≡ r ⊕ rounds k m n x y
+  round_clear n n' x y r r' x' e b er ex =
+      ap₂ (λ (r' x' : ℕ). r' ⊕ rounds k m n' x' (y / 2)) er ex
       ∙ ap (λ (z : ℕ). r ⊕ z)
-      (sym (zero_add (rounds k m (n - 1) (times_x k m x) (y / 2)))
-      ∙ ap (λ (d : ℕ). d ⊕ rounds k m (n - 1) (times_x k m x) (y / 2)) (sym (zero-mul x))
-      ∙ ap (λ (d : ℕ). (d * x) ⊕ rounds k m (n - 1) (times_x k m x) (y / 2)) (sym clear)
-      ∙ sym (round n x y h))
+      (sym (zero_add (rounds k m n' (times_x k m x) (y / 2)))
+      ∙ ap (λ (d : ℕ). d ⊕ rounds k m n' (times_x k m x) (y / 2)) (sym (zero-mul x))
+      ∙ ap (λ (d : ℕ). (d * x) ⊕ rounds k m n' (times_x k m x) (y / 2)) (sym clear)
+      ∙ sym (round n n' x y e))
     where
       clear : y % 2 ≡ 0
       clear = bit_ind (λ (d : ℕ). (d ≡ 1 → ⊥) → d ≡ 0) (λ q. refl) (λ q. absurd (q refl)) (y % 2) (bit_lt y) (λ e. b (and_mask y 1 ∙ e))

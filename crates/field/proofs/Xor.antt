@@ -5,41 +5,14 @@
 --   add_lt, add_shr, add_mod   of numbers of k digits; of the digits from k on, and below k
 --   swap                       four terms paired the other way
 --   sums                       the laws as one set of rewriting rules: both sides of an equation of sums are sorted alike
-use mathlib.Core.Path.{◌≡◌, refl, sym, ap, ap₂, ◌∙◌}
-use Prim.Native.Nat.{ℕ, zero, suc, ◌+◌, ◌*◌, ◌/◌, ◌%◌, ◌^◌, ◌<◌}
-use native.Mathlib.Nat.{mod-lt, le_of_suc-le-suc, not-suc-le-zero, zero-lt-suc}
-use lib.Bits.{bit_xor, differ, xor_step, xor_shr, xor_mod, xor_comm, xor_self, xor_zero_r, xor_lt}
-use lib.Arith.{bin_ind}
+use mathlib.Core.Path.{◌≡◌, refl, sym, ap, ◌∙◌}
+use Prim.Native.Nat.{ℕ, ◌/◌, ◌%◌, ◌^◌, ◌<◌}
+use native.Mathlib.Nat.{mod-lt, zero-lt-suc}
+use Rattle.std.specs.Int.Bits.{xor_assoc, xor_shr, xor_mod, xor_comm, xor_self, xor_zero_r, xor_lt}
 use Rattle.field.specs.Field.{◌⊕◌}
-
-differ_assoc : (x y z : ℕ) → x < 2 → y < 2 → z < 2 → differ (bit_xor x y) z ≡ differ x (bit_xor y z)
-differ_assoc zero y z hx hy hz = lemma y z hy hz
-  where
-    lemma : (y z : ℕ) → y < 2 → z < 2 → differ y z ≡ bit_xor y z
-    lemma zero z hy hz = refl
-    lemma (suc zero) zero hy hz = refl
-    lemma (suc zero) (suc zero) hy hz = refl
-    lemma (suc zero) (suc (suc z)) hy hz = absurd (not-suc-le-zero (le_of_suc-le-suc (le_of_suc-le-suc hz)))
-    lemma (suc (suc y)) z hy hz = absurd (not-suc-le-zero (le_of_suc-le-suc (le_of_suc-le-suc hy)))
-differ_assoc (suc zero) zero z hx hy hz = refl
-differ_assoc (suc zero) (suc zero) zero hx hy hz = refl
-differ_assoc (suc zero) (suc zero) (suc zero) hx hy hz = refl
-differ_assoc (suc zero) (suc zero) (suc (suc z)) hx hy hz = absurd (not-suc-le-zero (le_of_suc-le-suc (le_of_suc-le-suc hz)))
-differ_assoc (suc zero) (suc (suc y)) z hx hy hz = absurd (not-suc-le-zero (le_of_suc-le-suc (le_of_suc-le-suc hy)))
-differ_assoc (suc (suc x)) y z hx hy hz = absurd (not-suc-le-zero (le_of_suc-le-suc (le_of_suc-le-suc hx)))
 
 pub bit_lt : (a : ℕ) → a % 2 < 2
 bit_lt a = mod-lt a (zero-lt-suc 1)
-
-raw_assoc : (a b c : ℕ) → bit_xor (bit_xor a b) c ≡ bit_xor a (bit_xor b c)
-raw_assoc =
-    bin_ind (λ (n : ℕ). (b c : ℕ) → bit_xor (bit_xor n b) c ≡ bit_xor n (bit_xor b c)) (λ b c. refl)
-    (λ n ih b c.
-    xor_step (bit_xor n b) c
-    ∙ ap₂ (λ (x y : ℕ). bit_xor x (c / 2) * 2 + differ y (c % 2)) (xor_shr n b 1) (xor_mod n b 1)
-    ∙ ap₂ (λ (x y : ℕ). x * 2 + y) (ih (b / 2) (c / 2)) (differ_assoc (n % 2) (b % 2) (c % 2) (bit_lt n) (bit_lt b) (bit_lt c))
-    ∙ sym (ap₂ (λ (x y : ℕ). bit_xor (n / 2) x * 2 + differ (n % 2) y) (xor_shr b c 1) (xor_mod b c 1))
-    ∙ sym (xor_step n (bit_xor b c)))
 
 pub add_comm : (a b : ℕ) → a ⊕ b ≡ b ⊕ a
 unfolding ◌⊕◌
@@ -47,7 +20,7 @@ add_comm a b = xor_comm a b
 
 pub add_assoc : (a b c : ℕ) → (a ⊕ b) ⊕ c ≡ a ⊕ (b ⊕ c)
 unfolding ◌⊕◌
-add_assoc a b c = raw_assoc a b c
+add_assoc a b c = xor_assoc a b c
 
 pub add_left_comm : (a b c : ℕ) → a ⊕ (b ⊕ c) ≡ b ⊕ (a ⊕ c)
 add_left_comm a b c = sym (add_assoc a b c) ∙ ap (λ (x : ℕ). x ⊕ c) (add_comm a b) ∙ add_assoc b a c

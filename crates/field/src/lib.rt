@@ -32,14 +32,12 @@ pub fn mul(a: u8, b: u8) -> u8
     let mut x = a;
     let mut y = b;
     let mut r: u8 = 0;
-    let mut n: usize = 8;
-    while 0 < n {
+    for _ in 0..8u8 {
         if y & 1 == 1 {
-            r = r ^ x;
+            r ^= x;
         }
         x = times_x(x);
-        y = y >> 1;
-        n = n - 1;
+        y >>= 1;
     }
     r
 }
@@ -48,6 +46,5 @@ pub fn mul(a: u8, b: u8) -> u8
 pub fn invert(a: u8) -> u8
     ensures { (a ≡ 0 → result ≡ 0) × ((a ≡ 0 → ⊥) → a · result ≡ 1) }
 {
-    let k = 8 * (a % 8);
-    ((table::inverses_from(a / 8) >> k) % 256) as u8
+    table::inverses_from(a / 8).to_le_bytes()[usize::from(a % 8)]
 }

@@ -18,26 +18,26 @@ use Rattle.lines.proofs.sound_line.Reads as sound_line_reads
 use Rattle.lines.specs.contracts.refused_line as refused_line
 use Rattle.lines.proofs.refused_line.Reads as refused_line_reads
 
-pub count_line_asks : (κs : Lifetimes.Lfts 1) (a : World.ArgsD count_line.signature κs) → count_line_reads.Asked κs a
+pub count_line_asks : (κs : Lifetimes.Lfts 2) (a : World.ArgsD count_line.signature κs) → count_line_reads.Asked κs a
 count_line_asks κs a = tt
 
-pub chips_line_asks : (κs : Lifetimes.Lfts 1) (a : World.ArgsD chips_line.signature κs) → chips_line_reads.Asked κs a
+pub chips_line_asks : (κs : Lifetimes.Lfts 2) (a : World.ArgsD chips_line.signature κs) → chips_line_reads.Asked κs a
 chips_line_asks κs a = tt
 
-pub card_line_asks : (κs : Lifetimes.Lfts 1) (a : World.ArgsD card_line.signature κs) → card_line_reads.Asked κs a
+pub card_line_asks : (κs : Lifetimes.Lfts 2) (a : World.ArgsD card_line.signature κs) → card_line_reads.Asked κs a
 card_line_asks κs a = tt
 
-pub none_line_asks : (κs : Lifetimes.Lfts 1) (a : World.ArgsD none_line.signature κs) → none_line_reads.Asked κs a
+pub none_line_asks : (κs : Lifetimes.Lfts 2) (a : World.ArgsD none_line.signature κs) → none_line_reads.Asked κs a
 none_line_asks κs a = tt
 
-pub several_line_asks : (κs : Lifetimes.Lfts 1) (a : World.ArgsD several_line.signature κs) → several_line_reads.Asked κs a
+pub several_line_asks : (κs : Lifetimes.Lfts 2) (a : World.ArgsD several_line.signature κs) → several_line_reads.Asked κs a
 several_line_asks κs a = tt
 
-pub totals_line_asks : (κs : Lifetimes.Lfts 1) (a : World.ArgsD totals_line.signature κs) → totals_line_reads.Asked κs a
+pub totals_line_asks : (κs : Lifetimes.Lfts 2) (a : World.ArgsD totals_line.signature κs) → totals_line_reads.Asked κs a
 totals_line_asks κs a = tt
 
-pub sound_line_asks : (κs : Lifetimes.Lfts 1) (a : World.ArgsD sound_line.signature κs) → sound_line_reads.Asked κs a
+pub sound_line_asks : (κs : Lifetimes.Lfts 2) (a : World.ArgsD sound_line.signature κs) → sound_line_reads.Asked κs a
 sound_line_asks κs a = tt
 
-pub refused_line_asks : (κs : Lifetimes.Lfts 1) (a : World.ArgsD refused_line.signature κs) → refused_line_reads.Asked κs a
+pub refused_line_asks : (κs : Lifetimes.Lfts 2) (a : World.ArgsD refused_line.signature κs) → refused_line_reads.Asked κs a
 refused_line_asks κs a = tt

@@ -1,87 +1,82 @@
-// The lines of text that the bank program prints, newline included: specs/Lines.antt. Each function puts a line into lent bytes from
-// a place on, as far as there is room, and gives the place after it, as the functions of the crate `text` do.
+// The lines of text that the bank program prints, newline included: specs/Lines.antt. Each function adds a line to a text.
 #![tactic(auto)]
 
+ghost use Rattle.std.specs.Prelude.{◌≡◌, ◌++◌};
 ghost use Rattle.answer.specs.Answer.{in_chips, in_card, refused, refused_card};
-ghost use Rattle.text.specs.Put.{Put};
+ghost use Rattle.text.specs.Text.{ascii, decimal};
+ghost use Rattle.text.specs.Put.{Added};
 ghost use Rattle.lines.specs.Lines.{count_line, block_line, totals_line, refused_line, SoundPut};
 
-pub fn count_line(n: u16, out: &mut [u8], at: usize) -> usize
-    ensures { Put (count_line n) out.old at result out.new }
+use answer::Totals;
+use text::Text;
+
+// The block number, the word, the other number and the newline.
+fn two_numbers_line(text: &mut Text, k: u16, word: &[u8], n: u8)
+    ensures { Added (decimal k ++ (word.now ++ (decimal n ++ ascii "\n"))) text.old text.new }
 {
-    text::number_line(b"blocks ", n as u64, out, at)
+    text.number(u64::from(k));
+    text.number_line(word, u64::from(n));
+}
+
+pub fn count_line(text: &mut Text, n: u16)
+    ensures { Added (count_line n) text.old text.new }
+{
+    text.number_line(b"blocks ", u64::from(n));
 }
 
 // Block k reads as corrected in chips, n bytes changed.
-pub fn chips_line(k: u16, n: u8, out: &mut [u8], at: usize) -> usize
-    ensures { Put (block_line k (in_chips n)) out.old at result out.new }
+pub fn chips_line(text: &mut Text, k: u16, n: u8)
+    ensures { Added (block_line k (in_chips n)) text.old text.new }
 {
-    let named = text::number(k as u64, out, at);
-    text::number_line(b" chips ", n as u64, out, named)
+    two_numbers_line(text, k, b" chips ", n);
 }
 
 // Block k reads as corrected on card j, n bytes changed.
-pub fn card_line(k: u16, j: u8, n: u8, out: &mut [u8], at: usize) -> usize
-    ensures { Put (block_line k (in_card j n)) out.old at result out.new }
+pub fn card_line(text: &mut Text, k: u16, j: u8, n: u8)
+    ensures { Added (block_line k (in_card j n)) text.old text.new }
 {
-    let named = text::number(k as u64, out, at);
-    let on = text::labelled(b" card ", j as u64, out, named);
-    text::number_line(b" ", n as u64, out, on)
+    text.number(u64::from(k));
+    text.labelled(b" card ", u64::from(j));
+    text.number_line(b" ", u64::from(n));
 }
 
 // Block k reads as "none".
-pub fn none_line(k: u16, out: &mut [u8], at: usize) -> usize
-    ensures { Put (block_line k (refused 10)) out.old at result out.new }
+pub fn none_line(text: &mut Text, k: u16)
+    ensures { Added (block_line k (refused 10)) text.old text.new }
 {
-    let named = text::number(k as u64, out, at);
-    text::put(b" none\n", out, named)
+    text.number(u64::from(k));
+    text.put(b" none\n");
 }
 
 // Block k reads as "several", with card j.
-pub fn several_line(k: u16, j: u8, out: &mut [u8], at: usize) -> usize
-    ensures { Put (block_line k (refused_card 11 j)) out.old at result out.new }
+pub fn several_line(text: &mut Text, k: u16, j: u8)
+    ensures { Added (block_line k (refused_card 11 j)) text.old text.new }
 {
-    let named = text::number(k as u64, out, at);
-    text::number_line(b" several ", j as u64, out, named)
+    two_numbers_line(text, k, b" several ", j);
 }
 
-pub fn totals_line(
-    clean: u16,
-    chips: u16,
-    card: u16,
-    none: u16,
-    several: u16,
-    out: &mut [u8],
-    at: usize,
-) -> usize
-    ensures { Put (totals_line clean chips card none several) out.old at result out.new }
+pub fn totals_line(text: &mut Text, t: Totals)
+    ensures { Added (totals_line t.clean t.chips t.card t.none t.several) text.old text.new }
 {
-    let first = text::labelled(b"clean ", clean as u64, out, at);
-    let second = text::labelled(b" chips ", chips as u64, out, first);
-    let third = text::labelled(b" card ", card as u64, out, second);
-    let fourth = text::labelled(b" none ", none as u64, out, third);
-    text::number_line(b" several ", several as u64, out, fourth)
+    text.labelled(b"clean ", u64::from(t.clean));
+    text.labelled(b" chips ", u64::from(t.chips));
+    text.labelled(b" card ", u64::from(t.card));
+    text.labelled(b" none ", u64::from(t.none));
+    text.number_line(b" several ", u64::from(t.several));
 }
 
 // The sums are wider than a total, so that none wraps.
-pub fn sound_line(
-    clean: u16,
-    chips: u16,
-    card: u16,
-    none: u16,
-    several: u16,
-    out: &mut [u8],
-    at: usize,
-) -> usize
-    ensures { SoundPut clean chips card none several out.old at result out.new }
+pub fn sound_line(text: &mut Text, t: Totals)
+    ensures put { SoundPut t.clean t.chips t.card t.none t.several text.old.out.now text.old.at text.new.at text.new.out.now }
+    ensures same_out { text.new.out.ghost_name ≡ text.old.out.ghost_name }
 {
-    let sound = clean as u32 + chips as u32 + card as u32;
-    let n = sound + none as u32 + several as u32;
-    text::number_line(b"sound ", rounding::per_thousand(sound, n), out, at)
+    let sound = u32::from(t.clean) + u32::from(t.chips) + u32::from(t.card);
+    let all = sound + u32::from(t.none) + u32::from(t.several);
+    text.number_line(b"sound ", rounding::per_thousand(sound, all));
 }
 
-pub fn refused_line(n: u8, out: &mut [u8], at: usize) -> usize
-    ensures { Put (refused_line n) out.old at result out.new }
+pub fn refused_line(text: &mut Text, n: u8)
+    ensures { Added (refused_line n) text.old text.new }
 {
-    text::number_line(b"refused ", n as u64, out, at)
+    text.number_line(b"refused ", u64::from(n));
 }

@@ -1,6 +1,6 @@
 -- The chip places by the count, and the record after a chip mark is placed or lifted, as the code makes it.
 --
---   chips_many, places_many            the last case of a match on the count
+--   chips_many                         the last case of a match on the count
 --   place_new                          a chip that is not there; place_first, place_second: after none, after one
 --   lift_only, lift_first, lift_second  a marked chip that is the only one, the first of two, the second of two
 use Prim.Native.Nat.{ℕ, zero, suc}
@@ -9,7 +9,7 @@ use mathlib.Core.Bool.{true, false, false≢true, or-false}
 use mathlib.Core.List.{[], ◌∷◌, ◌++◌}
 use lib.Dec.{eqb}
 use borrow.Author.Tests.{eq-eqb, ne_eqb}
-use Rattle.marks.specs.Marks.{chips_of, marked_chips, is_marked, places_in_range}
+use Rattle.marks.specs.Marks.{chips_of, marked_chips, is_marked}
 use Rattle.marks.specs.Mark.{of_chips, marked}
 use Rattle.marks.specs.declared.Marks.{Marks}
 use Rattle.marks.specs.declared.MarkCall.TheVariants.{PlaceChip, LiftChip}
@@ -19,12 +19,6 @@ pub chips_many : (n a b : ℕ) → (n ≡ 0 → ⊥) → (n ≡ 1 → ⊥) → c
 chips_many zero a b h i = absurd (h refl)
 chips_many (suc zero) a b h i = absurd (i refl)
 chips_many (suc (suc n)) a b h i = refl
-
-pub places_many : (n a b : ℕ) → (n ≡ 0 → ⊥) → (n ≡ 1 → ⊥) → (n ≡ 2 → ⊥) → places_in_range n a b ≡ false
-places_many zero a b h i j = absurd (h refl)
-places_many (suc zero) a b h i j = absurd (i refl)
-places_many (suc (suc zero)) a b h i j = absurd (j refl)
-places_many (suc (suc (suc n))) a b h i j = refl
 
 -- ---- the record after a chip mark is placed or lifted
 module _ (m : Marks) (p : ℕ) where

@@ -13,18 +13,18 @@ use lib.ListN.{length}
 use native.Mathlib.Omega.{arith}
 use lib.Dec.{eqb, ltb}
 use borrow.Author.Tests.{ltb-true, eqb-true, eqb-false}
+use Rattle.std.proofs.lemmas.Bool.{and_parts}
 use Rattle.base.specs.Base.{if, In, Few}
 use Rattle.base.proofs.Few.{few_one, few_two, few_more}
 use Rattle.marks.specs.Marks.{LawfulMarks, CardInRange, chips_of, marked_chips, places_in_range}
 use Rattle.marks.specs.Mark.{of_chips, remove}
-use Rattle.marks.specs.declared.CardMark.{CardMark}
-use Rattle.base.proofs.Tests.{and_true}
+use Rattle.std.specs.declared.option.Option.{Option}
 
 -- ---- the chips of places within their ranges
 pub places_few : (n a b : ℕ) → places_in_range n a b ≡ true → (n ≡ 2 → a ≢ b) → Few 2 (chips_of n a b)
 places_few zero a b e d = tt
-places_few (suc zero) a b e d = few_one a (ltb-true a 45 (and_true _ _ e).0)
-places_few (suc (suc zero)) a b e d = let h = and_true _ _ e in few_two a b (ltb-true a 45 h.0) (ltb-true b 45 h.1) (d refl)
+places_few (suc zero) a b e d = few_one a (ltb-true a 45 (and_parts _ _ e).0)
+places_few (suc (suc zero)) a b e d = let h = and_parts _ _ e in few_two a b (ltb-true a 45 h.0) (ltb-true b 45 h.1) (d refl)
 places_few (suc (suc (suc n))) a b e d = absurd (false≢true e)
 
 pub places_count : (n a b : ℕ) → n ≤ 2 → length (chips_of n a b) ≡ n
@@ -33,15 +33,15 @@ places_count (suc zero) a b h = refl
 places_count (suc (suc zero)) a b h = refl
 places_count (suc (suc (suc n))) a b h = absurd (omega arith)
 
-pub places_back : (card : CardMark) (n a b : ℕ) → places_in_range n a b ≡ true
+pub places_back : (card : Option ℕ) (n a b : ℕ) → places_in_range n a b ≡ true
     → of_chips card (chips_of n a b) ≡ record { card = card; count = n; first = a; second = b }
-places_back card zero a b e = let h = and_true _ _ e in simp (eqb-true a 255 h.0, eqb-true b 255 h.1)
-places_back card (suc zero) a b e = simp (eqb-true b 255 (and_true (ltb a 45) (eqb b 255) e).1)
+places_back card zero a b e = let h = and_parts _ _ e in simp (eqb-true a 255 h.0, eqb-true b 255 h.1)
+places_back card (suc zero) a b e = simp (eqb-true b 255 (and_parts (ltb a 45) (eqb b 255) e).1)
 places_back card (suc (suc zero)) a b e = refl
 places_back card (suc (suc (suc n))) a b e = absurd (false≢true e)
 
 -- ---- a record of few chips
-pub few_lawful : (card : CardMark) (l : List ℕ) → CardInRange card → Few 2 l → LawfulMarks (of_chips card l)
+pub few_lawful : (card : Option ℕ) (l : List ℕ) → CardInRange card → Few 2 l → LawfulMarks (of_chips card l)
 few_lawful card [] h f = record { card = h; count = omega arith; first = inr (refl, refl); second = inr (omega arith, refl); differ = λ e. omega arith }
 few_lawful card (p ∷ []) h f =
     record { card = h; count = omega arith; first = inl (omega arith, f.0); second = inr (omega arith, refl); differ = λ e. omega arith }
@@ -49,7 +49,7 @@ few_lawful card (p ∷ q ∷ []) h f =
     record { card = h; count = omega arith; first = inl (omega arith, f.0); second = inl (refl, f.2.0); differ = λ e d. f.1 (inl d) }
 few_lawful card (p ∷ q ∷ r ∷ l) h f = absurd f.2.2
 
-pub kept : (card : CardMark) (l : List ℕ) → length l ≤ 2 → marked_chips (of_chips card l) ≡ l
+pub kept : (card : Option ℕ) (l : List ℕ) → length l ≤ 2 → marked_chips (of_chips card l) ≡ l
 kept card [] h = refl
 kept card (p ∷ []) h = refl
 kept card (p ∷ q ∷ []) h = refl

@@ -8,6 +8,7 @@
 --   marks_in_other                      bytes of another length are refused with 6
 --   few_chips, chips_counted, of_few    a lawful record: its chips are few; the count counts them; it is that of its card mark and its chips
 --   mark_causes, mark_cause_is          the number of a call is exactly the lowest of the causes that hold
+--   own_first, own_some                 where what is asked for is in its range, the record's own causes come first
 --   Can, can, mark_can                  a call is not refused exactly when these hold
 --   within                              the number, where the record is lawful and the call within its range
 --   unmarked, not_in                    a chip that is not there, as a test and as a fact
@@ -17,7 +18,7 @@
 --   third_refused, card_refused         a third chip mark is 8, and another card
 --   absent_refused                      a mark to lift that is not there is 9
 use Prim.Native.Nat.{ℕ, zero, suc, ◌<◌}
-use mathlib.Core.Path.{◌≡◌, refl, sym, ◌∙◌, subst}
+use mathlib.Core.Path.{◌≡◌, refl, sym, ap, ◌∙◌, subst}
 use mathlib.Core.Logic.{◌≢◌, inr, by_cases}
 use mathlib.Core.Bool.{Bool, true, false, ◌&&◌, not, true≢false, false≢true}
 use mathlib.Core.List.{List, [], ◌∷◌, ◌++◌}
@@ -26,21 +27,22 @@ use native.Mathlib.Decide.{ℕ_discrete}
 use native.Mathlib.Omega.{arith}
 use lib.Dec.{eqb}
 use borrow.Author.Tests.{eq-eqb, ne_eqb, lt-ltb, ltb-true, eqb-false, not-false}
+use Rattle.std.proofs.lemmas.Bool.{and_parts}
 use Rattle.base.specs.Base.{if, In, is_in, Few}
 use Rattle.base.proofs.Lists.{in_is_in, is_in_in}
-use Rattle.base.proofs.Tests.{and_true, and_yes}
+use Rattle.base.proofs.Tests.{and_yes}
 use Rattle.answer.specs.Answer.{Answer, done, refused, By}
 use Rattle.answer.specs.Cause.{Cause, cause, lowest}
-use Rattle.answer.proofs.Causes.{none_holds, Lowest, lowest_is, by_accepted}
+use Rattle.answer.proofs.Causes.{none_holds, Lowest, lowest_is, by_accepted, or_else, lowest_append, else_first}
 use Rattle.marks.specs.Marks.{LawfulMarks, CardInRange, fresh_marks, marked_chips, is_marked, in_range, two_equal, marks_cause}
 use Rattle.marks.specs.Marks.{card_byte, bytes, of_bytes, marks_in}
 use Rattle.marks.specs.Mark.{of_chips, insert, remove, marked, asked_in_range, too_many, absent, mark_cause, MarkDone}
-use Rattle.marks.specs.declared.CardMark.{CardMark}
-use Rattle.marks.specs.declared.CardMark.TheVariants.{None, Card}
+use Rattle.std.specs.declared.option.Option.{Option}
+use Rattle.std.specs.Prelude.{None, Some}
 use Rattle.marks.specs.declared.Marks.{Marks}
 use Rattle.marks.specs.declared.MarkCall.{MarkCall}
 use Rattle.marks.specs.declared.MarkCall.TheVariants.{PlaceChip, LiftChip, PlaceCard, LiftCard}
-use Rattle.marks.proofs.Tests.{places_test, lawful_range, lawful_two, tests_lawful}
+use Rattle.marks.proofs.Tests.{places_test, lawful_within, lawful_range, lawful_two, tests_lawful}
 use Rattle.marks.proofs.Few.{places_few, places_count, places_back, few_lawful, added, removed}
 
 -- ---- a record is lawful exactly when no cause is given
@@ -65,9 +67,9 @@ pub bytes_of_bytes : (a b c d : ℕ) → bytes (of_bytes (a ∷ b ∷ c ∷ d �
 unfolding of_bytes
 bytes_of_bytes a b c d = by_cases (ℕ_discrete a 255) (λ e. simp e) (λ n. simp (ne_eqb a 255 n))
 
-card_back : (card : CardMark) → CardInRange card → if (eqb (card_byte card) 255) None (Card (card_byte card)) ≡ card
+card_back : (card : Option ℕ) → CardInRange card → if (eqb (card_byte card) 255) None (Some (card_byte card)) ≡ card
 card_back None h = refl
-card_back (Card j) h = simp (ne_eqb j 255 (λ e. omega arith))
+card_back (Some j) h = simp (ne_eqb j 255 (λ e. omega arith))
 
 pub of_bytes_bytes : (m : Marks) → LawfulMarks m → of_bytes (bytes m) ≡ m
 unfolding of_bytes
@@ -92,13 +94,13 @@ marks_in_other b h = simp (ne_eqb (length b) 4 h)
 
 -- ---- the marked chips of a lawful record
 pub few_chips : (m : Marks) → LawfulMarks m → Few 2 (marked_chips m)
-few_chips m l = places_few m.count m.first m.second (places_test l) l.differ
+few_chips m l = places_few m.count m.first m.second (places_test (lawful_within l)) l.differ
 
 pub chips_counted : (m : Marks) → LawfulMarks m → length (marked_chips m) ≡ m.count
 chips_counted m l = places_count m.count m.first m.second l.count
 
 pub of_few : (m : Marks) → LawfulMarks m → of_chips m.card (marked_chips m) ≡ m
-of_few m l = places_back m.card m.count m.first m.second (places_test l)
+of_few m l = places_back m.card m.count m.first m.second (places_test (lawful_within l))
 
 -- ---- the number of a call
 abbrev pub mark_causes : Marks → MarkCall → List Cause
@@ -108,6 +110,22 @@ mark_causes m c =
 pub mark_cause_is : (m : Marks) (c : MarkCall) → Lowest (mark_cause m c) (mark_causes m c)
 unfolding mark_cause
 mark_cause_is m c = lowest_is (mark_causes m c) (omega arith, (omega arith, (omega arith, (omega arith, tt))))
+
+and_yes_too : (t : Bool) → t && true ≡ t
+and_yes_too true = refl
+and_yes_too false = refl
+
+pub own_first : (m : Marks) (c : MarkCall) → asked_in_range c ≡ true
+    → mark_cause m c ≡ or_else (marks_cause m) (lowest (cause 8 (too_many m c) ∷ cause 9 (absent m c) ∷ []))
+unfolding mark_cause marks_cause
+own_first m c e =
+    ap (λ (t : Bool). lowest (cause 6 (not t) ∷ cause 7 (two_equal m) ∷ cause 8 (too_many m c) ∷ cause 9 (absent m c) ∷ []))
+    (ap (λ (t : Bool). in_range m && t) e ∙ and_yes_too (in_range m))
+    ∙ lowest_append (cause 6 (not (in_range m)) ∷ cause 7 (two_equal m) ∷ []) (cause 8 (too_many m c) ∷ cause 9 (absent m c) ∷ []) tt
+
+pub own_some : (m : Marks) (c : MarkCall) (n : ℕ) → asked_in_range c ≡ true → n ≡ marks_cause m → n ≢ 0 → mark_cause m c ≡ n
+own_some m c n e q z = own_first m c e ∙ ap (λ (k : ℕ). or_else k (lowest (cause 8 (too_many m c) ∷ cause 9 (absent m c) ∷ []))) (sym q)
+    ∙ else_first n (lowest (cause 8 (too_many m c) ∷ cause 9 (absent m c) ∷ [])) z
 
 -- ---- what holds where a call is not refused
 pub record Can (m : Marks) (c : MarkCall) : Type 0 where
@@ -123,7 +141,7 @@ can m c e =
     let seven = none_holds 6 _ (cause 8 (too_many m c) ∷ cause 9 (absent m c) ∷ []) six.1 in
     let eight = none_holds 7 _ (cause 9 (absent m c) ∷ []) seven.1 in
     let nine = none_holds 8 _ [] eight.1 in
-    let within = and_true _ _ (not-false _ six.0) in
+    let within = and_parts _ _ (not-false _ six.0) in
     record { lawful = tests_lawful m within.0 seven.0; asked = within.1; room = eight.0; there = nine.0 }
 
 -- of a lawful record and a call within its range
@@ -202,7 +220,7 @@ mark_done_lawful m c a m' l d = go (mark_cause m c) refl
 pub third_refused : (m : Marks) (p : ℕ) → LawfulMarks m → m.count ≡ 2 → p < 45 → is_marked m p ≡ false → mark_cause m (PlaceChip p) ≡ 8
 third_refused m p l e h i = within m (PlaceChip p) l (lt-ltb p 45 h) ∙ simp (i, eq-eqb m.count 2 e)
 
-pub card_refused : (m : Marks) (i j : ℕ) → LawfulMarks m → m.card ≡ Card i → j < 5 → i ≢ j → mark_cause m (PlaceCard j) ≡ 8
+pub card_refused : (m : Marks) (i j : ℕ) → LawfulMarks m → m.card ≡ Some i → j < 5 → i ≢ j → mark_cause m (PlaceCard j) ≡ 8
 card_refused m i j l e h d = within m (PlaceCard j) l (lt-ltb j 5 h) ∙ simp (e, ne_eqb i j d)
 
 pub absent_refused : (m : Marks) (c : MarkCall) → LawfulMarks m → asked_in_range c ≡ true → absent m c ≡ true → mark_cause m c ≡ 9

@@ -6,5 +6,6 @@ pub mod Again
 pub mod Gives
 pub mod Plain
 pub mod Numbers
+pub mod Said
 pub mod Tied
 pub mod Witnesses

@@ -10,13 +10,13 @@ use mathlib.Core.Bool.{Bool, true, false, ◌&&◌, not, false≢true, true≢fa
 use mathlib.Core.List.{List, [], ◌∷◌}
 use native.Mathlib.Omega.{arith}
 use borrow.Author.Tests.{ltb-true, lt-ltb, eqb-true, eqb-false, not-true, not-false}
-use Rattle.base.proofs.Tests.{and_true}
+use Rattle.std.proofs.lemmas.Bool.{and_parts}
 use Rattle.answer.specs.Cause.{Cause, cause, lowest}
 use Rattle.answer.proofs.Causes.{first_holds}
 use Rattle.marks.specs.Marks.{LawfulMarks, marked_chips, in_range, two_equal, is_marked, marks_cause}
 use Rattle.marks.specs.Mark.{card_is, some_card, asked_in_range, too_many, absent, mark_cause, TooMany, Absent, MarkExactly}
-use Rattle.marks.specs.declared.CardMark.{CardMark}
-use Rattle.marks.specs.declared.CardMark.TheVariants.{None, Card}
+use Rattle.std.specs.declared.option.Option.{Option}
+use Rattle.std.specs.Prelude.{None, Some}
 use Rattle.marks.specs.declared.Marks.{Marks}
 use Rattle.marks.specs.declared.MarkCall.{MarkCall}
 use Rattle.marks.specs.declared.MarkCall.TheVariants.{PlaceChip, LiftChip, PlaceCard, LiftCard}
@@ -74,17 +74,17 @@ nine_when false true u v e = absurd (omega (arith, sym (seven_first u v) ∙ e))
 nine_when false false u v e = (refl, refl, ((above_seven u v).1 e).1)
 
 -- ---- as tests and as facts
-other_card : (c : CardMark) (j : ℕ) → some_card c && not (card_is c j) ≡ true → (i : ℕ) × (c ≡ Card i) × (i ≢ j)
+other_card : (c : Option ℕ) (j : ℕ) → some_card c && not (card_is c j) ≡ true → (i : ℕ) × (c ≡ Some i) × (i ≢ j)
 other_card None j e = absurd (false≢true e)
-other_card (Card i) j e = (i, refl, eqb-false i j (not-true _ e))
+other_card (Some i) j e = (i, refl, eqb-false i j (not-true _ e))
 
-no_card : (c : CardMark) → not (some_card c) ≡ true → c ≡ None
+no_card : (c : Option ℕ) → not (some_card c) ≡ true → c ≡ None
 no_card None e = refl
-no_card (Card i) e = absurd (false≢true e)
+no_card (Some i) e = absurd (false≢true e)
 
 many_fact : (m : Marks) (c : MarkCall) → LawfulMarks m → asked_in_range c ≡ true → too_many m c ≡ true → TooMany m c
 many_fact m (PlaceChip p) l h e =
-    let w = and_true _ _ e in
+    let w = and_parts _ _ e in
     (ltb-true p 45 h, chips_counted m l ∙ eqb-true m.count 2 w.0, unmarked m p (not-true _ w.1))
 many_fact m (LiftChip p) l h e = absurd (false≢true e)
 many_fact m (PlaceCard j) l h e = (ltb-true j 5 h, other_card m.card j e)
@@ -123,7 +123,7 @@ mark_exactly m c = record {
     -- where neither 6 nor 7 holds the record is lawful and the mark asked for within its range
     within : not (in_range m && asked_in_range c) ≡ false → two_equal m ≡ false → LawfulMarks m × (asked_in_range c ≡ true)
     within s t =
-        let w = and_true (in_range m) (asked_in_range c) (not-false (in_range m && asked_in_range c) s) in
+        let w = and_parts (in_range m) (asked_in_range c) (not-false (in_range m && asked_in_range c) s) in
         (tests_lawful m w.0 t, w.1)
 
     eight : lowest (mark_causes m c) ≡ 8 → LawfulMarks m × TooMany m c

@@ -19,8 +19,8 @@ use Rattle.base.proofs.Few.{few_in, few_length}
 use Rattle.base.proofs.Lists.{in_is_in, is_in_in}
 use Rattle.marks.specs.Marks.{marked_chips, is_marked, LawfulMarks}
 use Rattle.marks.specs.Mark.{of_chips, insert, remove, marked, card_is, some_card, mark_cause, MarkDone, MayAsk, MarkAccepted, MarkLeaves}
-use Rattle.marks.specs.declared.CardMark.{CardMark}
-use Rattle.marks.specs.declared.CardMark.TheVariants.{None, Card}
+use Rattle.std.specs.declared.option.Option.{Option}
+use Rattle.std.specs.Prelude.{None, Some}
 use Rattle.marks.specs.declared.Marks.{Marks}
 use Rattle.marks.specs.declared.MarkCall.{MarkCall}
 use Rattle.marks.specs.declared.MarkCall.TheVariants.{PlaceChip, LiftChip, PlaceCard, LiftCard}
@@ -29,13 +29,13 @@ use Rattle.marks.proofs.Laws.{few_chips, chips_counted, Can, can, mark_can, room
 use Rattle.marks.proofs.Again.{insert_there, already_can}
 
 -- ---- the card mark, as a test and as a fact
-same_or_none : (c : CardMark) (j : ℕ) → some_card c && not (card_is c j) ≡ false → (c ≡ Card j) ⊎ (c ≡ None)
+same_or_none : (c : Option ℕ) (j : ℕ) → some_card c && not (card_is c j) ≡ false → (c ≡ Some j) ⊎ (c ≡ None)
 same_or_none None j e = inr refl
-same_or_none (Card i) j e = inl (ap Card (eqb-true i j (not-false _ e)))
+same_or_none (Some i) j e = inl (ap Some (eqb-true i j (not-false _ e)))
 
-a_card : (c : CardMark) → not (some_card c) ≡ false → (j : ℕ) × (c ≡ Card j)
+a_card : (c : Option ℕ) → not (some_card c) ≡ false → (j : ℕ) × (c ≡ Some j)
 a_card None e = absurd (true≢false e)
-a_card (Card j) e = (j, refl)
+a_card (Some j) e = (j, refl)
 
 -- ---- when it is not refused
 to_ask : (m : Marks) (c : MarkCall) → Can m c → MayAsk m c
@@ -78,7 +78,7 @@ left_in p q (a ∷ l) i ne = go (eqb p a) refl i (λ z. left_in p q l z ne)
     go false e (inl z) later = inl z
     go false e (inr z) later = inr (later z)
 
-card_of : (c : CardMark) (l : List ℕ) → (of_chips c l).card ≡ c
+card_of : (c : Option ℕ) (l : List ℕ) → (of_chips c l).card ≡ c
 card_of c [] = refl
 card_of c (p ∷ []) = refl
 card_of c (p ∷ q ∷ l) = refl

@@ -2,6 +2,7 @@
 --
 --   card_fact, card_test            the card mark within its range
 --   places_fact, places_test        the chip places within their ranges, by the count
+--   range_test, range_fact          the record within its ranges; equal_two, two_chips: its chip marks equal
 --   lawful_range, lawful_two        a lawful record passes both tests; tests_lawful: one that does is lawful
 use Prim.Native.Nat.{ℕ, zero, suc, ◌≤◌, ◌<◌}
 use mathlib.Core.Path.{◌≡◌, refl, sym, ◌∙◌}
@@ -10,20 +11,21 @@ use mathlib.Core.Bool.{true, false, false≢true, true≢false}
 use native.Mathlib.Decide.{ℕ_discrete}
 use native.Mathlib.Omega.{arith}
 use borrow.Author.Tests.{eq-eqb, ne_eqb, lt-ltb, ltb-true, eqb-true}
-use Rattle.base.proofs.Tests.{and_true}
+use Rattle.std.proofs.lemmas.Bool.{and_parts}
 use Rattle.marks.specs.Marks.{LawfulMarks, CardInRange, card_in_range, places_in_range, in_range, two_equal}
-use Rattle.marks.specs.declared.CardMark.{CardMark}
-use Rattle.marks.specs.declared.CardMark.TheVariants.{None, Card}
+use Rattle.marks.specs.Said.{InRange, EqualChips}
+use Rattle.std.specs.declared.option.Option.{Option}
+use Rattle.std.specs.Prelude.{None, Some}
 use Rattle.marks.specs.declared.Marks.{Marks}
 
 -- ---- the ranges
-card_fact : (card : CardMark) → card_in_range card ≡ true → CardInRange card
+card_fact : (card : Option ℕ) → card_in_range card ≡ true → CardInRange card
 card_fact None e = tt
-card_fact (Card j) e = ltb-true j 5 e
+card_fact (Some j) e = ltb-true j 5 e
 
-card_test : (card : CardMark) → CardInRange card → card_in_range card ≡ true
+card_test : (card : Option ℕ) → CardInRange card → card_in_range card ≡ true
 card_test None h = refl
-card_test (Card j) h = lt-ltb j 5 h
+card_test (Some j) h = lt-ltb j 5 h
 
 record PlacesInRange (n a b : ℕ) : Type 0 where
   count : n ≤ 2
@@ -32,17 +34,17 @@ record PlacesInRange (n a b : ℕ) : Type 0 where
 
 places_fact : (n a b : ℕ) → places_in_range n a b ≡ true → PlacesInRange n a b
 places_fact zero a b e =
-    let h = and_true _ _ e in
+    let h = and_parts _ _ e in
     record { count = omega arith; first = inr (refl, eqb-true a 255 h.0); second = inr (omega arith, eqb-true b 255 h.1) }
 places_fact (suc zero) a b e =
-    let h = and_true _ _ e in
+    let h = and_parts _ _ e in
     record { count = omega arith; first = inl (omega arith, ltb-true a 45 h.0); second = inr (omega arith, eqb-true b 255 h.1) }
 places_fact (suc (suc zero)) a b e =
-    let h = and_true _ _ e in
+    let h = and_parts _ _ e in
     record { count = omega arith; first = inl (omega arith, ltb-true a 45 h.0); second = inl (refl, ltb-true b 45 h.1) }
 places_fact (suc (suc (suc n))) a b e = absurd (false≢true e)
 
-module _ {m : Marks} (l : LawfulMarks m) where
+module _ {m : Marks} (l : InRange m) where
   first_used : 1 ≤ m.count → m.first < 45
   first_used h = ⊎_elim (λ w. w.1) (λ w. omega arith) l.first
 
@@ -65,26 +67,46 @@ module _ {m : Marks} (l : LawfulMarks m) where
       let e : m.count ≡ 2 = omega (arith, l.count) in
       simp (e, lt-ltb m.first 45 (first_used (omega arith)), lt-ltb m.second 45 (second_used e))))
 
-  pub lawful_range : in_range m ≡ true
+  pub range_test : in_range m ≡ true
   unfolding in_range
-  lawful_range = simp (card_test m.card l.card, places_test)
+  range_test = simp (card_test m.card l.card, places_test)
 
-  pub lawful_two : two_equal m ≡ false
-  unfolding two_equal
-  lawful_two =
-      by_cases (ℕ_discrete m.count 2)
-      (λ e. simp (eq-eqb m.count 2 e, ne_eqb m.first m.second (l.differ e)))
-      (λ n. simp (ne_eqb m.count 2 n))
+pub range_fact : (m : Marks) → in_range m ≡ true → InRange m
+unfolding in_range
+range_fact m r =
+    let h = and_parts _ _ r in
+    let p = places_fact m.count m.first m.second h.1 in
+    record { card = card_fact m.card h.0; count = p.count; first = p.first; second = p.second }
+
+-- ---- lawful
+pub lawful_within : {m : Marks} → LawfulMarks m → InRange m
+lawful_within l = record { card = l.card; count = l.count; first = l.first; second = l.second }
+
+pub equal_two : (m : Marks) → EqualChips m → two_equal m ≡ true
+unfolding two_equal
+equal_two m (n, e) = simp (eq-eqb m.count 2 n, eq-eqb m.first m.second e)
+
+pub two_chips : (m : Marks) → two_equal m ≡ true → EqualChips m
+unfolding two_equal
+two_chips m t = let h = and_parts _ _ t in (eqb-true m.count 2 h.0, eqb-true m.first m.second h.1)
+
+pub lawful_range : {m : Marks} → LawfulMarks m → in_range m ≡ true
+lawful_range l = range_test (lawful_within l)
+
+pub lawful_two : {m : Marks} → LawfulMarks m → two_equal m ≡ false
+unfolding two_equal
+lawful_two {m} l =
+    by_cases (ℕ_discrete m.count 2)
+    (λ e. simp (eq-eqb m.count 2 e, ne_eqb m.first m.second (l.differ e)))
+    (λ n. simp (ne_eqb m.count 2 n))
 
 pub tests_lawful : (m : Marks) → in_range m ≡ true → two_equal m ≡ false → LawfulMarks m
-unfolding in_range two_equal
 tests_lawful m r t =
-    let h = and_true _ _ r in
-    let p = places_fact m.count m.first m.second h.1 in
+    let h = range_fact m r in
     record {
-      card = card_fact m.card h.0;
-      count = p.count;
-      first = p.first;
-      second = p.second;
-      differ = λ e f. true≢false (sym (simp (eq-eqb m.count 2 e, eq-eqb m.first m.second f)) ∙ t);
+      card = h.card;
+      count = h.count;
+      first = h.first;
+      second = h.second;
+      differ = λ e f. true≢false (sym (equal_two m (e, f)) ∙ t);
     }

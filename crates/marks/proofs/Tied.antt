@@ -5,7 +5,7 @@ use borrow.Fn.Kinds
 use borrow.Fn.World
 use denote.Triple.Clauses
 use mathlib.Core.Path.{◌≡◌}
-use Rattle.answer.specs.Answer.{outcome_answer}
+use Rattle.answer.specs.Answer.{outcome_answer, cause_number}
 use Rattle.marks.specs.Marks.{fresh_marks, bytes, marks_in, marks_cause, is_marked}
 use Rattle.marks.specs.Mark.{MarkDone}
 use Rattle.marks.specs.contracts.mark as mark
@@ -20,20 +20,20 @@ use Rattle.marks.proofs.from_slice.Reads as from_slice_reads
 use Rattle.marks.specs.contracts.to_bytes as to_bytes
 use Rattle.marks.proofs.to_bytes.Kinds as to_bytes_kinds
 use Rattle.marks.proofs.to_bytes.Reads as to_bytes_reads
-use Rattle.marks.specs.contracts.marks_cause as cause
-use Rattle.marks.proofs.marks_cause.Kinds as cause_kinds
-use Rattle.marks.proofs.marks_cause.Reads as cause_reads
+use Rattle.marks.specs.contracts.check as check
+use Rattle.marks.proofs.check.Kinds as check_kinds
+use Rattle.marks.proofs.check.Reads as check_reads
 use Rattle.marks.specs.contracts.is_marked as is_there
 use Rattle.marks.proofs.is_marked.Kinds as is_there_kinds
 use Rattle.marks.proofs.is_marked.Reads as is_there_reads
 
 -- mark: the relation that the book is made of
-pub mark_tied : (κs : Lifetimes.Lfts 0) (a : World.ArgsD mark.signature κs) (r : World.ResD mark.signature κs)
-    (s : Clauses.AtExit (Kinds.ended_of 0 mark_kinds.ps mark_kinds.r) κs)
-    → mark_reads.Learnt κs a r s → MarkDone a.0 a.1.0 (outcome_answer r.answer) r.marks
+pub mark_tied : (κs : Lifetimes.Lfts 1) (a : World.ArgsD mark.signature κs) (r : World.ResD mark.signature κs)
+    (s : Clauses.AtExit (Kinds.ended_of 1 mark_kinds.ps mark_kinds.r) κs)
+    → mark_reads.Learnt κs a r s → MarkDone a.0.now a.1.0 (outcome_answer r) s.0.now
 mark_tied κs a r s l = l
 
-pub mark_asks : (κs : Lifetimes.Lfts 0) (a : World.ArgsD mark.signature κs) → mark_reads.Asked κs a
+pub mark_asks : (κs : Lifetimes.Lfts 1) (a : World.ArgsD mark.signature κs) → mark_reads.Asked κs a
 mark_asks κs a = tt
 
 pub fresh_tied : (κs : Lifetimes.Lfts 0) (a : World.ArgsD fresh.signature κs) (r : World.ResD fresh.signature κs)
@@ -59,11 +59,12 @@ to_bytes_tied κs a r s l = l
 pub to_bytes_asks : (κs : Lifetimes.Lfts 0) (a : World.ArgsD to_bytes.signature κs) → to_bytes_reads.Asked κs a
 to_bytes_asks κs a = tt
 
-pub marks_cause_tied : (κs : Lifetimes.Lfts 0) (a : World.ArgsD cause.signature κs) (r : World.ResD cause.signature κs)
-    (s : Clauses.AtExit (Kinds.ended_of 0 cause_kinds.ps cause_kinds.r) κs) → cause_reads.Learnt κs a r s → r ≡ marks_cause a.0
+-- the check of a record
+pub marks_cause_tied : (κs : Lifetimes.Lfts 0) (a : World.ArgsD check.signature κs) (r : World.ResD check.signature κs)
+    (s : Clauses.AtExit (Kinds.ended_of 0 check_kinds.ps check_kinds.r) κs) → check_reads.Learnt κs a r s → cause_number r ≡ marks_cause a.0
 marks_cause_tied κs a r s l = l
 
-pub marks_cause_asks : (κs : Lifetimes.Lfts 0) (a : World.ArgsD cause.signature κs) → cause_reads.Asked κs a
+pub marks_cause_asks : (κs : Lifetimes.Lfts 0) (a : World.ArgsD check.signature κs) → check_reads.Asked κs a
 marks_cause_asks κs a = tt
 
 pub is_marked_tied : (κs : Lifetimes.Lfts 0) (a : World.ArgsD is_there.signature κs) (r : World.ResD is_there.signature κs)

@@ -13,15 +13,15 @@ use Rattle.base.specs.Base.{if, In, is_in}
 use Rattle.answer.specs.Answer.{Answer, done, By}
 use Rattle.answer.specs.Cause.{cause, lowest}
 use Rattle.marks.specs.Marks.{marked_chips, LawfulMarks, in_range, two_equal, is_marked, marks_cause}
-use Rattle.marks.specs.declared.CardMark.{CardMark}
-use Rattle.marks.specs.declared.CardMark.TheVariants.{None, Card}
+use Rattle.std.specs.declared.option.Option.{Option}
+use Rattle.std.specs.Prelude.{None, Some}
 use Rattle.marks.specs.declared.Marks.{Marks}
 use Rattle.marks.specs.declared.MarkCall.{MarkCall}
 use Rattle.marks.specs.declared.MarkCall.TheVariants.{PlaceChip, LiftChip, PlaceCard, LiftCard}
 
 -- ---- the record after it
 -- the record of a card mark and at most two chips
-abbrev pub of_chips : CardMark → List ℕ → Marks
+abbrev pub of_chips : Option ℕ → List ℕ → Marks
 of_chips c [] = record { card = c; count = 0; first = 255; second = 255 }
 of_chips c (p ∷ []) = record { card = c; count = 1; first = p; second = 255 }
 of_chips c (p ∷ q ∷ l) = record { card = c; count = 2; first = p; second = q }
@@ -38,17 +38,17 @@ insert p l = if (is_in p l) l (l ++ (p ∷ []))
 unfoldable pub marked : Marks → MarkCall → Marks
 marked m (PlaceChip p) = of_chips m.card (insert p (marked_chips m))
 marked m (LiftChip p) = of_chips m.card (remove p (marked_chips m))
-marked m (PlaceCard j) = record { card = Card j; count = m.count; first = m.first; second = m.second }
+marked m (PlaceCard j) = record { card = Some j; count = m.count; first = m.first; second = m.second }
 marked m LiftCard = record { card = None; count = m.count; first = m.first; second = m.second }
 
 -- ---- the causes
-abbrev pub card_is : CardMark → ℕ → Bool
+abbrev pub card_is : Option ℕ → ℕ → Bool
 card_is None j = false
-card_is (Card i) j = eqb i j
+card_is (Some i) j = eqb i j
 
-abbrev pub some_card : CardMark → Bool
+abbrev pub some_card : Option ℕ → Bool
 some_card None = false
-some_card (Card i) = true
+some_card (Some i) = true
 
 -- 6: the mark asked for is outside its ranges
 abbrev pub asked_in_range : MarkCall → Bool
@@ -85,8 +85,8 @@ MarkDone m c a m' = By (mark_cause m c) a (m' ≡ m) ((a ≡ done) × (m' ≡ ma
 abbrev pub MayAsk : Marks → MarkCall → Type 0
 MayAsk m (PlaceChip p) = (p < 45) × (In p (marked_chips m) ⊎ (length (marked_chips m) < 2))
 MayAsk m (LiftChip p) = In p (marked_chips m)
-MayAsk m (PlaceCard j) = (j < 5) × ((m.card ≡ Card j) ⊎ (m.card ≡ None))
-MayAsk m LiftCard = (j : ℕ) × (m.card ≡ Card j)
+MayAsk m (PlaceCard j) = (j < 5) × ((m.card ≡ Some j) ⊎ (m.card ≡ None))
+MayAsk m LiftCard = (j : ℕ) × (m.card ≡ Some j)
 
 abbrev pub MarkAccepted : Type 0
 MarkAccepted = (m : Marks) (c : MarkCall) → (mark_cause m c ≡ 0) ↔ (LawfulMarks m × MayAsk m c)
@@ -98,7 +98,7 @@ Leaves m (PlaceChip p) m' =
     × (In p (marked_chips m) → marked_chips m' ≡ marked_chips m)
     × ((In p (marked_chips m) → ⊥) → marked_chips m' ≡ marked_chips m ++ (p ∷ []))
 Leaves m (LiftChip p) m' = (m'.card ≡ m.card) × ((q : ℕ) → In q (marked_chips m') ↔ (In q (marked_chips m) × (q ≢ p)))
-Leaves m (PlaceCard j) m' = (m'.card ≡ Card j) × (marked_chips m' ≡ marked_chips m)
+Leaves m (PlaceCard j) m' = (m'.card ≡ Some j) × (marked_chips m' ≡ marked_chips m)
 Leaves m LiftCard m' = (m'.card ≡ None) × (marked_chips m' ≡ marked_chips m)
 
 abbrev pub MarkLeaves : Type 0
@@ -115,7 +115,7 @@ places LiftCard = false
 abbrev pub Already : Marks → MarkCall → Type 0
 Already m (PlaceChip p) = In p (marked_chips m)
 Already m (LiftChip p) = ⊥
-Already m (PlaceCard j) = m.card ≡ Card j
+Already m (PlaceCard j) = m.card ≡ Some j
 Already m LiftCard = ⊥
 
 -- "Placing a mark that is already there is now accepted and changes nothing, for chips and for the card, also when two chip marks stand."
@@ -130,7 +130,7 @@ MarkSame = (m : Marks) (c : MarkCall) → mark_cause m c ≡ 0 → (marked m c �
 abbrev pub TooMany : Marks → MarkCall → Type 0
 TooMany m (PlaceChip p) = (p < 45) × (length (marked_chips m) ≡ 2) × (In p (marked_chips m) → ⊥)
 TooMany m (LiftChip p) = ⊥
-TooMany m (PlaceCard j) = (j < 5) × ((i : ℕ) × (m.card ≡ Card i) × (i ≢ j))
+TooMany m (PlaceCard j) = (j < 5) × ((i : ℕ) × (m.card ≡ Some i) × (i ≢ j))
 TooMany m LiftCard = ⊥
 
 -- the mark to lift is not there

@@ -9,23 +9,23 @@
 use Rattle.std.specs.Prelude.{ℕ, zero, suc, ◌≤◌, ◌<◌, ◌≡◌, ◌⊎◌, ◌≢◌, Bool, true, false, ◌&&◌, not, List, [], ◌∷◌, eqb, ltb, length, get_or}
 use Rattle.base.specs.Base.{if, is_in}
 use Rattle.answer.specs.Cause.{Cause, cause, lowest}
-use Rattle.marks.specs.declared.CardMark.{CardMark}
-use Rattle.marks.specs.declared.CardMark.TheVariants.{None, Card}
+use Rattle.std.specs.declared.option.Option.{Option}
+use Rattle.std.specs.Prelude.{None, Some}
 use Rattle.marks.specs.declared.Marks.{Marks}
 
 abbrev pub fresh_marks : Marks
 fresh_marks = record { card = None; count = 0; first = 255; second = 255 }
 
 -- ---- as bytes
-abbrev pub card_byte : CardMark → ℕ
+abbrev pub card_byte : Option ℕ → ℕ
 card_byte None = 255
-card_byte (Card j) = j
+card_byte (Some j) = j
 
 abbrev pub bytes : Marks → List ℕ
 bytes m = card_byte m.card ∷ m.count ∷ m.first ∷ m.second ∷ []
 
 unfoldable pub of_bytes : List ℕ → Marks
-of_bytes b = record { card = if (eqb (get_or b 0 0) 255) None (Card (get_or b 0 0)); count = get_or b 1 0; first = get_or b 2 0; second = get_or b 3 0 }
+of_bytes b = record { card = if (eqb (get_or b 0 0) 255) None (Some (get_or b 0 0)); count = get_or b 1 0; first = get_or b 2 0; second = get_or b 3 0 }
 
 abbrev pub no_record : Marks
 no_record = record { card = None; count = 255; first = 255; second = 255 }
@@ -47,9 +47,9 @@ is_marked m p = is_in p (marked_chips m)
 
 -- ---- lawful marks
 -- none, or a card 0 to 4: a choice of its own, so that no card number stands for none
-abbrev pub CardInRange : CardMark → Type 0
+abbrev pub CardInRange : Option ℕ → Type 0
 CardInRange None = Unit {0}
-CardInRange (Card j) = j < 5
+CardInRange (Some j) = j < 5
 
 -- a chip place that is in use holds a position 0 to 44, an unused one 255
 pub record LawfulMarks (m : Marks) : Type 0 where
@@ -60,9 +60,9 @@ pub record LawfulMarks (m : Marks) : Type 0 where
   pub differ : m.count ≡ 2 → m.first ≢ m.second
 
 -- ---- the same as tests, with the number of the refusal
-abbrev pub card_in_range : CardMark → Bool
+abbrev pub card_in_range : Option ℕ → Bool
 card_in_range None = true
-card_in_range (Card j) = ltb j 5
+card_in_range (Some j) = ltb j 5
 
 abbrev pub places_in_range : ℕ → ℕ → ℕ → Bool
 places_in_range zero first second = eqb first 255 && eqb second 255

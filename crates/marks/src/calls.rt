@@ -1,45 +1,32 @@
 // What refuses a call that places or lifts a mark, and the record after one that nothing refuses.
-ghost use Rattle.std.specs.Prelude.{◌≡◌, true, not, ◌&&◌, [], ◌∷◌};
-ghost use Rattle.marks.specs.Marks.{in_range, is_marked};
-ghost use Rattle.marks.specs.Mark.{of_chips, marked, card_is, some_card, asked_in_range, too_many, absent, mark_cause};
+//
+// Functions of a record and a call: as methods of the record, `m.too_many(c)` for `too_many(m, c)`, they would take the call beside it just so.
+ghost use Rattle.std.specs.Prelude.{◌≡◌, true, [], ◌∷◌};
+ghost use Rattle.answer.specs.Answer.{cause_number};
+ghost use Rattle.marks.specs.Marks.{is_marked};
+ghost use Rattle.marks.specs.Mark.{of_chips, marked, card_is, asked_in_range, too_many, absent, mark_cause};
 ghost use Rattle.marks.specs.declared.MarkCall.TheVariants.{PlaceChip, LiftChip};
 
-use super::{CardMark, MarkCall, Marks, lawful};
-
-pub(crate) fn wide(x: u8) -> u32
-    ensures { result ≡ x }
-{
-    x as u32
-}
+use super::{MarkCall, Marks};
+use answer::Refusal;
 
 // Whether the number p, however large, is that of a marked chip. A place past the count is not looked at.
+#[tactic(auto, unfolding(crate::specs::Marks::is_marked))]
 pub(crate) fn has_chip(m: Marks, p: u32) -> bool
     ensures { result ≡ is_marked m p }
 {
-    let n = m.count;
-    match n {
+    match m.count {
         0 => false,
-        1 => p == wide(m.first),
-        _ => p == wide(m.first) || p == wide(m.second),
+        1 => p == u32::from(m.first),
+        _ => p == u32::from(m.first) || p == u32::from(m.second),
     }
 }
 
-fn card_is(card: CardMark, j: u32) -> bool
+// Whether the number j, however large, is that of the marked card.
+fn card_is(card: Option<u8>, j: u32) -> bool
     ensures { result ≡ card_is card j }
 {
-    match card {
-        CardMark::None => false,
-        CardMark::Card(i) => wide(i) == j,
-    }
-}
-
-fn some_card(card: CardMark) -> bool
-    ensures { result ≡ some_card card }
-{
-    match card {
-        CardMark::None => false,
-        CardMark::Card(_) => true,
-    }
+    card.is_some_and(|i| u32::from(i) == j)
 }
 
 fn asked_in_range(c: MarkCall) -> bool
@@ -57,11 +44,10 @@ fn asked_in_range(c: MarkCall) -> bool
 fn too_many(m: Marks, c: MarkCall) -> bool
     ensures { result ≡ too_many m c }
 {
-    let card = m.card;
     match c {
         MarkCall::PlaceChip(p) => m.count == 2 && !has_chip(m, p),
         MarkCall::LiftChip(_) => false,
-        MarkCall::PlaceCard(j) => some_card(card) && !card_is(card, j),
+        MarkCall::PlaceCard(j) => m.card.is_some() && !card_is(m.card, j),
         MarkCall::LiftCard => false,
     }
 }
@@ -70,35 +56,33 @@ fn too_many(m: Marks, c: MarkCall) -> bool
 fn absent(m: Marks, c: MarkCall) -> bool
     ensures { result ≡ absent m c }
 {
-    let card = m.card;
     match c {
         MarkCall::PlaceChip(_) => false,
         MarkCall::LiftChip(p) => !has_chip(m, p),
         MarkCall::PlaceCard(_) => false,
-        MarkCall::LiftCard => !some_card(card),
+        MarkCall::LiftCard => m.card.is_none(),
     }
 }
 
-// The record, or the mark asked for, is outside its ranges.
-fn outside(m: Marks, c: MarkCall) -> bool
-    ensures { result ≡ not (in_range m && asked_in_range c) }
+// Whether the call may be made, or why not: the numbers in their order. 6 is also that of what is asked for, 7 the record's own.
+#[tactic(auto, unfolding(crate::specs::Mark::mark_cause, crate::specs::Marks::marks_cause))]
+pub(crate) fn check(m: Marks, c: MarkCall) -> Result<(), Refusal>
+    ensures { cause_number result ≡ mark_cause m c }
 {
-    !lawful::in_range(m) || !asked_in_range(c)
+    if !asked_in_range(c) {
+        return Err(Refusal::MarkRange);
+    }
+    super::check(m)?;
+    if too_many(m, c) {
+        return Err(Refusal::TooManyMarks);
+    }
+    if absent(m, c) {
+        return Err(Refusal::NotMarked);
+    }
+    Ok(())
 }
 
-// 0 where the call is not refused, else the number of its refusal: 7 is the record's own.
-pub(crate) fn mark_cause(m: Marks, c: MarkCall) -> u8
-    ensures { result ≡ mark_cause m c }
-{
-    lawful::lowest(
-        outside(m, c),
-        lawful::two_equal(m),
-        too_many(m, c),
-        absent(m, c),
-    )
-}
-
-pub(crate) fn no_chip(card: CardMark) -> Marks
+pub(crate) fn no_chip(card: Option<u8>) -> Marks
     ensures { result ≡ of_chips card [] }
 {
     Marks {
@@ -109,7 +93,7 @@ pub(crate) fn no_chip(card: CardMark) -> Marks
     }
 }
 
-fn one_chip(card: CardMark, p: u8) -> Marks
+fn one_chip(card: Option<u8>, p: u8) -> Marks
     ensures { result ≡ of_chips card (p ∷ []) }
 {
     Marks {
@@ -125,37 +109,37 @@ fn with_chip(m: Marks, p: u8) -> Marks
     requires { mark_cause m (PlaceChip p) ≡ 0 }
     ensures { result ≡ marked m (PlaceChip p) }
 {
-    if has_chip(m, wide(p)) {
+    if has_chip(m, u32::from(p)) {
         return m;
     }
-    let card = m.card;
     if m.count == 0 {
-        return one_chip(card, p);
+        return one_chip(m.card, p);
     }
     Marks {
-        card,
         count: 2,
-        first: m.first,
         second: p,
+        ..m
     }
 }
 
 // Without chip p, which is marked. The second of two moves down where the first is lifted: the places in use stay the first ones.
+#[tactic(auto, using(crate::proofs::Chips::lift_only, crate::proofs::Chips::lift_first, crate::proofs::Chips::lift_second))]
 fn without_chip(m: Marks, p: u8) -> Marks
     requires { is_marked m p ≡ true }
     ensures { result ≡ marked m (LiftChip p) }
 {
-    let card = m.card;
     if m.count == 1 {
-        return no_chip(card);
+        return no_chip(m.card);
     }
     if p == m.first {
-        return one_chip(card, m.second);
+        return one_chip(m.card, m.second);
     }
-    one_chip(card, m.first)
+    one_chip(m.card, m.first)
 }
 
-// The record after a call that nothing refuses: what is asked for is a position or a card, so it fits a byte.
+// The record after a call that nothing refuses: what is asked for is a position or a card, so it fits a byte, and
+// `try_from` would give an Err that can't be.
+#[tactic(auto, unfolding(crate::specs::Mark::marked))]
 pub(crate) fn after(m: Marks, c: MarkCall) -> Marks
     requires { mark_cause m c ≡ 0 }
     ensures { result ≡ marked m c }
@@ -164,16 +148,9 @@ pub(crate) fn after(m: Marks, c: MarkCall) -> Marks
         MarkCall::PlaceChip(p) => with_chip(m, p as u8),
         MarkCall::LiftChip(p) => without_chip(m, p as u8),
         MarkCall::PlaceCard(j) => Marks {
-            card: CardMark::Card(j as u8),
-            count: m.count,
-            first: m.first,
-            second: m.second,
+            card: Some(j as u8),
+            ..m
         },
-        MarkCall::LiftCard => Marks {
-            card: CardMark::None,
-            count: m.count,
-            first: m.first,
-            second: m.second,
-        },
+        MarkCall::LiftCard => Marks { card: None, ..m },
     }
 }

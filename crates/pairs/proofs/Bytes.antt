@@ -15,7 +15,7 @@ use native.Mathlib.Omega.{arith}
 use lib.Dec.{eqb}
 use lib.Pow.{pow_pos, pow-add, pow_mono, shl_lt, shl-shr, shr-shr, shr_lt}
 use borrow.Author.Tests.{eq-eqb, ne_eqb}
-use Rattle.base.proofs.Tests.{same}
+use Rattle.std.proofs.lemmas.Bool.{cases_eq}
 use Rattle.field.specs.Field.{sum}
 use Rattle.field.proofs.Xor.{add_shr, add_mod}
 use Rattle.field.proofs.Linear.{Additive, at_zero}
@@ -79,7 +79,7 @@ module _ (x : ℕ) (h : x < 2 ^ 8) where
       ∙ mul-mod_left (x * 2 ^ (8 * (i - suc k))) (2 ^ 8)
 
   shifted : (i k : ℕ) → byte_of (x * 2 ^ (8 * i)) k ≡ if (eqb i k) x 0
-  shifted i k = pick (same i k) (dec_lt i k)
+  shifted i k = pick (cases_eq i k) (dec_lt i k)
     where
       pick : (i ≡ k) ⊎ (i ≢ k) → Dec (i < k) → byte_of (x * 2 ^ (8 * i)) k ≡ if (eqb i k) x 0
       pick (inl e) d = ap (λ (n : ℕ). byte_of (x * 2 ^ (8 * n)) k) e ∙ here k ∙ sym (ap (λ (t : Bool). if t x 0) (eq-eqb i k e))

@@ -4,7 +4,7 @@
 ghost use Rattle.std.specs.Prelude.{◌≡◌, ◌/◌, ◌%◌, ◌^◌};
 ghost use Rattle.pairs.specs.Words.{byte_of, at_both, reduced};
 
-// The byte of a word that begins at digit k; past its end that is 0.
+// The byte of a word that begins at digit k; past its end that is 0. `as`, behind a mask: what is cut off is what is not asked for.
 pub fn part(u: u64, k: u64) -> u8
     ensures { result ≡ u / 2 ^ k % 2 ^ 8 }
 {
@@ -44,7 +44,9 @@ pub fn pair(u: u64) -> u64
     reduce_pair(v)
 }
 
-// The first of a pair; of label sums, that of the labels.
+// The first of a pair; of label sums, that of the labels. Two functions of a line, as callers read by their names: one of both would take a
+// number for which, and say no more than `part`.
+#[tactic(auto, unfolding(crate::specs::Words::byte_of))]
 pub fn once(v: u64) -> u8
     ensures { result ≡ byte_of v 0 }
 {
@@ -52,6 +54,7 @@ pub fn once(v: u64) -> u8
 }
 
 // The second; that of their squares.
+#[tactic(auto, unfolding(crate::specs::Words::byte_of))]
 pub fn squared(v: u64) -> u8
     ensures { result ≡ byte_of v 4 }
 {

@@ -4,7 +4,7 @@
 --   report_agrees   two reports of one bank under the same marks give the same answer
 --   decided         two texts of one input are equal
 --   say_decided     two outcomes of `say` on the same bytes are equal
-use mathlib.Core.Path.{◌≡◌, sym, ap, ap₂, ◌∙◌, subst}
+use mathlib.Core.Path.{◌≡◌, sym, ap, ap₂, ◌∙◌}
 use mathlib.Core.Logic.{◌⊎◌, inl, inr, ⊎_elim}
 use mathlib.Core.List.{List, ◌++◌}
 use Prim.Native.Nat.{ℕ, ◌-◌, ◌≤◌, ◌<◌}
@@ -52,7 +52,7 @@ decided input t u p q = ⊎_elim (λ z. long (omega arith)) (λ z. p.short (omeg
         let k = q.otherwise h in
         let e : g.0 ≡ k.0 = report_agrees (input_bank input) (input_bank input) (input_bank input) (input_marks input) g.0 k.0 g.1 k.1 in
         one_text (input_bank input) (input_marks input) k.0 t u
-        (subst (λ a. PrintsReport (input_bank input) (input_marks input) a t) e g.2) k.2
+        (rw e at g.2) k.2
 
 pub say_decided : (input out : List ℕ) (n n' : ℕ) (i i' o o' : List ℕ) → SayDone input out n i o → SayDone input out n' i' o' → (n ≡ n') × (i ≡ i') × (o ≡ o')
 say_decided input out n n' i i' o o' d d' = pick (eq-zero-or-pos (16384 - length out))

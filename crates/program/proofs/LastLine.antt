@@ -6,7 +6,7 @@
 --   some_blocks    a bank whose report counts has 1 to 1,024 blocks
 --   fourth_last    a text of four parts ends with the last
 --   totals_add_up, last_line, of_sixteen
-use mathlib.Core.Path.{◌≡◌, ap, ◌∙◌, subst}
+use mathlib.Core.Path.{◌≡◌, ap, ◌∙◌}
 use mathlib.Core.List.{List, ◌++◌, append_assoc}
 use Prim.Native.Nat.{ℕ, zero, suc, ◌+◌, ◌*◌, ◌≤◌, ◌<◌}
 use native.Mathlib.Nat.{lt-suc_self, lt_trans}
@@ -24,7 +24,7 @@ use Rattle.rounding.proofs.Halves.{rounds_agree}
 use Rattle.rounding.proofs.PerThousand.{worked, all_or_none}
 use Rattle.text.specs.Text.{digits_up_to, decimal}
 use Rattle.lines.specs.Lines.{count_line, totals_line, sound_line}
-use Rattle.program.specs.Program.{input_marks, input_bank, block_lines, PrintsReport}
+use Rattle.program.specs.Program.{input_marks, input_bank, block_lines}
 use Rattle.program.specs.LastLine.{TotalsAddUp, EndsWith, LastLine, OfSixteen}
 use Rattle.program.proofs.Report.{counted_cause, counted_each}
 use Rattle.program.proofs.Decided.{report_agrees}
@@ -74,8 +74,8 @@ last_line input text v w x y z p d =
     let few = some_blocks bank bank m v w x y z d in
     let g = p.otherwise (omega (arith, few.0, length-drop 4 input)) in
     let e = report_agrees bank bank bank m g.0 (counted v w x y z) g.1 d in
-    let t = subst (λ (a : Answer). PrintsReport bank m a text) e g.2 in
-    let f : PerThousand (v + w + x) (blocks bank) t.2 = subst (λ (n : ℕ). PerThousand (v + w + x) n t.2) all t.3 in
+    let t = rw e at g.2 in
+    let f : PerThousand (v + w + x) (blocks bank) t.2 = rw all at t.3 in
     let told = (all_or_none (blocks bank) few.0).0 (omega (arith, few.1)) (v + w + x) t.2 (omega (arith, all)) f in (
       t.2,
       fourth_last text (count_line (blocks bank)) (block_lines t.0 (blocks bank)) (totals_line v w x y z) (sound_line t.2) t.4,
@@ -91,5 +91,5 @@ of_sixteen input text v w x y z p d n = (λ s. ends 1 62 s worked.0, λ s. ends 
     ends : (s q : ℕ) → v + w + x ≡ s → PerThousand s 16 q → EndsWith text (sound_line q)
     ends s q e f =
         let t = last_line input text v w x y z p d in
-        let g = subst (λ (k : ℕ). PerThousand s k t.0) n (subst (λ (k : ℕ). PerThousand k (blocks (input_bank input)) t.0) e t.2) in
-        subst (λ (k : ℕ). EndsWith text (sound_line k)) (rounds_agree (1000 * s) 16 t.0 q g f) t.1
+        let g = rw (n, e) at t.2 in
+        rw (rounds_agree (1000 * s) 16 t.0 q g f) at t.1

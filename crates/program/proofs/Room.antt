@@ -3,7 +3,7 @@
 --   small          a reading under lawful marks names a card of one digit, and a number of bytes of at most two
 --   lines_length   the blocks' lines, 15 bytes each at most
 --   text_length    a text has at most 16,384 bytes
-use mathlib.Core.Path.{◌≡◌, sym, subst}
+use mathlib.Core.Path.{◌≡◌}
 use mathlib.Core.Logic.{⊎_elim}
 use mathlib.Core.List.{List, [], ◌++◌}
 use Prim.Native.Nat.{ℕ, zero, suc, ◌+◌, ◌*◌, ◌-◌, ◌≤◌, ◌<◌}
@@ -14,8 +14,8 @@ use Rattle.base.proofs.Tally.{at_most}
 use Rattle.answer.specs.Answer.{Answer, done, clean, in_chips, in_card, counted, refused, refused_card}
 use Rattle.code.specs.Block.{changes}
 use Rattle.marks.specs.Marks.{CardInRange, LawfulMarks, marked_chips}
-use Rattle.marks.specs.declared.CardMark.{CardMark}
-use Rattle.marks.specs.declared.CardMark.TheVariants.{None, Card}
+use Rattle.std.specs.declared.option.Option.{Option}
+use Rattle.std.specs.Prelude.{None, Some}
 use Rattle.marks.specs.declared.Marks.{Marks}
 use Rattle.marks.proofs.Laws.{cause_lawful}
 use Rattle.reading.specs.Reading.{OnCard, ReadsUnder}
@@ -26,9 +26,9 @@ use Rattle.lines.proofs.Lengths.{Small, count_length, block_length, totals_lengt
 use Rattle.program.specs.Program.{input_bank, input_marks, block_lines, bank_text, PrintsReport, Prints}
 use Rattle.program.proofs.Report.{fine, small_cause, counted_cause, counted_each, refused_cause}
 
-on_card : (c : CardMark) (j : ℕ) (ps b x : List ℕ) → CardInRange c → OnCard c j ps b x → j < 10
+on_card : (c : Option ℕ) (j : ℕ) (ps b x : List ℕ) → CardInRange c → OnCard c j ps b x → j < 10
 on_card None j ps b x r o = omega (arith, o.0)
-on_card (Card i) j ps b x r o = omega (arith, o, r)
+on_card (Some i) j ps b x r o = omega (arith, o, r)
 
 few_changes : (b x : List ℕ) (n : ℕ) → n ≡ changes b x → n < 100
 unfolding changes
@@ -74,12 +74,12 @@ bank_length bank m f v w x y z q e r a b c d g s =
 report_length : (bank : List ℕ) (m : Marks) (a : Answer) (text : List ℕ) → ReportDone bank m a bank → PrintsReport bank m a text → length text ≤ 16384
 report_length bank m (refused n) text d p =
     let l = refused_length n (omega (arith, refused_cause bank bank m n d, small_cause (length bank) m)) in
-    subst (λ (t : List ℕ). length t ≤ 16384) (sym p) (le_trans l (omega arith))
+    rw p (le_trans l (omega arith))
 report_length bank m (counted v w x y z) text d p =
     let e = counted_cause bank bank m v w x y z d in
     let t = counted_each bank bank m v w x y z d in
     let most : (u i : ℕ) → u ≡ how_many t.0 (blocks bank) i → u ≤ blocks bank = λ u i q. at_most (blocks bank) _ u q in
-    subst (λ (t : List ℕ). length t ≤ 16384) (sym p.4)
+    rw p.4
     (bank_length bank m p.0 v w x y z p.2 e p.1
     (most v 0 (cc t.2)) (most w 1 (cc t.2)) (most x 2 (cc t.2)) (most y 3 (cc t.2)) (most z 4 (cc t.2)) p.3)
 report_length bank m done text d p = absurd p
@@ -92,5 +92,5 @@ pub text_length : (input text : List ℕ) → Prints input text → length text 
 text_length input text p =
     ⊎_elim
     (λ z. let w = p.otherwise (omega arith) in report_length (input_bank input) (input_marks input) w.0 text w.1 w.2)
-    (λ z. subst (λ (t : List ℕ). length t ≤ 16384) (sym (p.short (omega arith))) (le_trans (refused_length 6 (omega arith)) (omega arith)))
+    (λ z. rw (p.short (omega arith)) (le_trans (refused_length 6 (omega arith)) (omega arith)))
     (eq-zero-or-pos (4 - length input))

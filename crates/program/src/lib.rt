@@ -4,81 +4,81 @@
 ghost use Rattle.std.specs.Prelude.{◌≡◌, ◌≤◌, length};
 ghost use Rattle.marks.specs.Marks.{marks_cause};
 ghost use Rattle.reading.specs.Reading.{reading_answer};
-ghost use Rattle.reading.specs.declared.Reading.TheVariants.{Corrected};
 ghost use Rattle.bank.specs.Calls.{blocks};
 ghost use Rattle.lines.specs.Lines.{block_line};
-ghost use Rattle.text.specs.Put.{Put};
+ghost use Rattle.text.specs.Put.{Added};
 ghost use Rattle.program.specs.Program.{SayDone};
-ghost use Rattle.program.specs.Parts.{BlocksPut, BankPut};
+ghost use Rattle.program.specs.Parts.{InputPut, BankPut, BlocksPut};
+
+use answer::{Refusal, Totals};
+use marks::Marks;
+use reading::{Fault, Kind, Reading};
+use text::Text;
 
 // Puts the text at the front of the output and gives its length. 16,384 bytes have room for every text: a smaller output is left as it is,
-// and 0 is given.
+// and 0 is given, as `SayDone` has it: the length of what was put, which an Option would only wrap.
 pub fn say(input: &[u8], out: &mut [u8]) -> usize
     ensures { SayDone input.now out.old result input.now out.new }
 {
     if out.len() < 16384 {
         return 0;
     }
-    if input.len() < 4 {
-        return lines::refused_line(6, out, 0);
-    }
-    let m = marks::from_slice(&input[..4]);
-    let bank = &input[4..];
+    let mut text = Text { out, at: 0 };
+    input_text(&mut text, input);
+    text.at
+}
+
+// The text of an input.
+fn input_text(text: &mut Text, input: &[u8])
+    ensures { InputPut input.now text.old text.new }
+{
+    let Some((start, bank)) = input.split_first_chunk::<4>() else {
+        lines::refused_line(text, Refusal::MarkRange.number());
+        return;
+    };
+    let m = marks::from_slice(start);
     match bank::report(bank, m) {
-        bank::Reported::Counted(t) => bank_text(bank, m, t, out),
-        bank::Reported::Refused(n) => lines::refused_line(n, out, 0),
+        Ok(totals) => bank_text(text, bank, m, totals),
+        Err(refusal) => lines::refused_line(text, refusal.number()),
     }
 }
 
-// The text of a bank that a report has counted.
-fn bank_text(bank: &[u8], m: marks::Marks, t: bank::Totals, out: &mut [u8]) -> usize
+// The text of a bank that a report has counted. What is asked of bank and marks is asked here and in `block_lines` alone, and both come from
+// `input_text`: a struct with ghost fields for two private functions would be no plainer.
+fn bank_text(text: &mut Text, bank: &[u8], m: Marks, t: Totals)
     requires { (length bank.now ≤ 46080) × (marks_cause m ≡ 0) }
-    ensures bank_put { BankPut bank.now m t out.old result out.new }
-    ensures bank_value { bank.now ≡ bank.now }
+    ensures { BankPut bank.now m t text.old text.new }
 {
-    let counted = lines::count_line((bank.len() / 45) as u16, out, 0);
-    let listed = block_lines(bank, m, out, counted);
-    let summed = lines::totals_line(t.clean, t.chips, t.card, t.none, t.several, out, listed);
-    let whole = lines::sound_line(t.clean, t.chips, t.card, t.none, t.several, out, summed);
-    whole
+    // At most 1,024, so that `as` loses nothing; try_from would give an Err that can't be.
+    lines::count_line(text, (bank.len() / 45) as u16);
+    block_lines(text, bank, m);
+    lines::totals_line(text, t);
+    lines::sound_line(text, t);
 }
 
 // A line for each block that is not clean.
-fn block_lines(bank: &[u8], m: marks::Marks, out: &mut [u8], from: usize) -> usize
+fn block_lines(text: &mut Text, bank: &[u8], m: Marks)
     requires { (length bank.now ≤ 46080) × (marks_cause m ≡ 0) }
-    ensures blocks_put { BlocksPut bank.now m (blocks bank.now) out.old from result out.new }
-    ensures bank_value { bank.now ≡ bank.now }
+    ensures { BlocksPut bank.now m (blocks bank.now) text.old text.new }
 {
-    let n = (bank.len() / 45) as u16;
-    let mut at = from;
-    let mut k: u16 = 0;
-    while k < n {
-        let start = 45 * (k as usize);
-        let end = start + 45;
-        let r = block::look(&bank[start..end], m);
-        at = block_line(k, r, out, at);
-        k = k + 1;
-    }
-    at
-}
-
-fn block_line(k: u16, r: reading::Reading, out: &mut [u8], at: usize) -> usize
-    ensures { Put (block_line k (reading_answer r)) out.old at result out.new }
-{
-    match r {
-        reading::Reading::Corrected(kind) => corrected_line(k, kind, out, at),
-        reading::Reading::Several(j) => lines::several_line(k, j, out, at),
-        reading::Reading::Refused(_) => lines::none_line(k, out, at),
+    let (whole, _) = bank.as_chunks::<45>();
+    for (k, b) in whole.iter().enumerate() {
+        let r = block::look(b, m);
+        // Below 1,024, so that `as` loses nothing. Tried `(0u16..).zip(whole)`, which needs no `as`: such a loop has no index for its proof, and
+        // the library's laws of a zip are of two slices.
+        block_line(text, k as u16, r);
     }
 }
 
 // A clean block has no line.
-fn corrected_line(k: u16, kind: reading::Kind, out: &mut [u8], at: usize) -> usize
-    ensures { Put (block_line k (reading_answer (Corrected kind))) out.old at result out.new }
+fn block_line(text: &mut Text, k: u16, r: Reading)
+    ensures { Added (block_line k (reading_answer r)) text.old text.new }
 {
-    match kind {
-        reading::Kind::Clean => text::put(b"", out, at),
-        reading::Kind::Chips(n) => lines::chips_line(k, n, out, at),
-        reading::Kind::OneCard(j, n) => lines::card_line(k, j, n, out, at),
+    match r {
+        Ok(Kind::Clean) => {}
+        Ok(Kind::Chips(n)) => lines::chips_line(text, k, n),
+        Ok(Kind::OneCard(j, n)) => lines::card_line(text, k, j, n),
+        Err(Fault::Several(j)) => lines::several_line(text, k, j),
+        Err(Fault::Refused(_)) => lines::none_line(text, k),
     }
 }

@@ -9,29 +9,29 @@ use mathlib.Core.Path.{◌≡◌, refl, sym, ap, ap₂, ◌∙◌, subst}
 use mathlib.Core.List.{List}
 use Prim.Native.Nat.{ℕ, ◌<◌, ◌≤◌}
 use native.Mathlib.Omega.{arith}
-use Rattle.base.proofs.Tests.{same, lt_or_le}
+use Rattle.std.proofs.lemmas.Bool.{cases_eq, cases_lt}
 use Rattle.answer.specs.Answer.{Answer, done, clean, in_chips, in_card, counted, refused, refused_card}
 use Rattle.answer.proofs.Causes.{Agreed}
 use Rattle.code.specs.Block.{changes, OneMember, NoMember, TwoMembers}
 use Rattle.code.specs.Labels.{built_in}
 use Rattle.marks.specs.Marks.{marked_chips}
 use Rattle.marks.specs.declared.Marks.{Marks}
-use Rattle.marks.specs.declared.CardMark.{CardMark}
-use Rattle.marks.specs.declared.CardMark.TheVariants.{None, Card}
+use Rattle.std.specs.declared.option.Option.{Option}
+use Rattle.std.specs.Prelude.{None, Some}
 use Rattle.reading.specs.Allowed.{OfChipKind}
 use Rattle.reading.specs.Reading.{S, LowestReaching, OnCard, Reads, ReadsUnder}
 use Rattle.reading.proofs.Facts.{apart, by_marked, unchanged}
 
 -- the card that a change not of the chip kind is told by
-one_card : (c : CardMark) (ps b x : List ℕ) (i j : ℕ) → (OfChipKind c ps b x → ⊥) → OnCard c i ps b x → OnCard c j ps b x → i ≡ j
-one_card (Card m) ps b x i j n g h = g ∙ sym h
-one_card None ps b x i j n g h = pick (same i j)
+one_card : (c : Option ℕ) (ps b x : List ℕ) (i j : ℕ) → (OfChipKind c ps b x → ⊥) → OnCard c i ps b x → OnCard c j ps b x → i ≡ j
+one_card (Some m) ps b x i j n g h = g ∙ sym h
+one_card None ps b x i j n g h = pick (cases_eq i j)
   where
     pick : (i ≡ j) ⊎ (i ≢ j) → i ≡ j
     pick (inl q) = q
     pick (inr q) = absurd (n (by_marked ps b x (apart ps b x i j q g.1 h.1)))
 
-module _ (ls : List ℕ) (c : CardMark) (ps b out : List ℕ) where
+module _ (ls : List ℕ) (c : Option ℕ) (ps b out : List ℕ) where
   -- how a corrected block x is told
   data Kind (x : List ℕ) : Answer → Type 0 where
     as_clean : x ≡ b → Kind x clean
@@ -68,7 +68,7 @@ module _ (ls : List ℕ) (c : CardMark) (ps b out : List ℕ) where
   one_kind x a a' (as_card j n k o w) (as_card j' n' k' o' w') = ap₂ in_card (one_card c ps b x j j' o w w') (k ∙ sym k')
 
   one_lowest : (i j : ℕ) → LowestReaching ls ps b i → LowestReaching ls ps b j → i ≡ j
-  one_lowest i j h g = pick (lt_or_le i j) (lt_or_le j i)
+  one_lowest i j h g = pick (cases_lt i j) (cases_lt j i)
     where
       pick : (i < j) ⊎ (j ≤ i) → (j < i) ⊎ (i ≤ j) → i ≡ j
       pick (inl l) k = absurd (g.1 i (omega arith) h.0)

@@ -19,7 +19,7 @@ use borrow.Author.Tests.{eq-eqb}
 use Rattle.base.specs.Base.{if, In}
 use Rattle.code.specs.Reach.{Off, keep}
 use Rattle.code.proofs.Few.{in_keep, keep_in, keep_off, keep_all, widen}
-use Rattle.marks.specs.declared.CardMark.TheVariants.{Card}
+use Rattle.std.specs.Prelude.{Some}
 use Rattle.reading.specs.Allowed.{u, further_beside, BesideUpTo, BesideKind}
 use Rattle.reading.specs.Reading.{S}
 
@@ -62,13 +62,13 @@ module _ (j : ℕ) (ps b x : List ℕ) where
       each p l (inr (inr i)) = inr (inr i)
 
 -- ---- how many marks count
-pub u_kept : (j : ℕ) (ps : List ℕ) → u (Card j) (keep j ps) ≡ u (Card j) ps
+pub u_kept : (j : ℕ) (ps : List ℕ) → u (Some j) (keep j ps) ≡ u (Some j) ps
 u_kept j ps = omega (arith, ap length (keep_all j (keep j ps) (keep_off j ps)))
 
-pub u_off : (j : ℕ) (qs : List ℕ) → Off j qs → u (Card j) qs ≡ length qs
+pub u_off : (j : ℕ) (qs : List ℕ) → Off j qs → u (Some j) qs ≡ length qs
 u_off j qs off = omega (arith, ap length (keep_all j qs off))
 
-pub u_on : (j : ℕ) (ps : List ℕ) → ((p : ℕ) → In p ps → p / 9 ≡ j) → u (Card j) ps ≡ 0
+pub u_on : (j : ℕ) (ps : List ℕ) → ((p : ℕ) → In p ps → p / 9 ≡ j) → u (Some j) ps ≡ 0
 unfolding keep
 u_on j [] h = refl
 u_on j (p ∷ ps) h =
@@ -85,14 +85,14 @@ module _ (j : ℕ) (qs b x : List ℕ) (off : Off j qs) where
 module _ (j : ℕ) (ps b x : List ℕ) where
   pub kind_kept : BesideKind j ps b x → BesideKind j (keep j ps) b x
   kind_kept h =
-      subst (λ (n : ℕ). BesideUpTo (further_beside n) j (keep j ps) b x) (sym (u_kept j ps)) (by_kept j ps b x (further_beside (u (Card j) ps)) h)
+      subst (λ (n : ℕ). BesideUpTo (further_beside n) j (keep j ps) b x) (sym (u_kept j ps)) (by_kept j ps b x (further_beside (u (Some j) ps)) h)
 
   pub kind_from : BesideKind j (keep j ps) b x → BesideKind j ps b x
   kind_from h =
-      from_kept j ps b x (further_beside (u (Card j) ps)) (subst (λ (n : ℕ). BesideUpTo (further_beside n) j (keep j ps) b x) (u_kept j ps) h)
+      from_kept j ps b x (further_beside (u (Some j) ps)) (subst (λ (n : ℕ). BesideUpTo (further_beside n) j (keep j ps) b x) (u_kept j ps) h)
 
-  pub in_kept : (ls : List ℕ) → S ls (Card j) ps b x → S ls (Card j) (keep j ps) b x
+  pub in_kept : (ls : List ℕ) → S ls (Some j) ps b x → S ls (Some j) (keep j ps) b x
   in_kept ls s = record { block = s.block; lawful = s.lawful; allowed = kind_kept s.allowed }
 
-  pub in_from : (ls : List ℕ) → S ls (Card j) (keep j ps) b x → S ls (Card j) ps b x
+  pub in_from : (ls : List ℕ) → S ls (Some j) (keep j ps) b x → S ls (Some j) ps b x
   in_from ls s = record { block = s.block; lawful = s.lawful; allowed = kind_from s.allowed }

@@ -15,8 +15,9 @@ use native.Mathlib.Omega.{arith}
 use lib.Dec.{T, eqb}
 use lib.ListN.{length}
 use borrow.Author.Tests.{eq-eqb, ne_eqb}
+use Rattle.std.proofs.lemmas.Bool.{cases_eq}
 use Rattle.base.specs.Base.{In, is_in, tally, Few}
-use Rattle.base.proofs.Tests.{same, Found, find}
+use Rattle.base.proofs.Tests.{Found, find}
 use Rattle.base.proofs.Lists.{in_is_in, is_in_in}
 use Rattle.base.proofs.Tally.{clash, tally_none, tally_one, tally_some, tally_two}
 use Rattle.answer.specs.Answer.{Answer, clean, in_chips, in_card, refused, refused_card}
@@ -27,8 +28,8 @@ use Rattle.code.proofs.Blocks.{same_block}
 use Rattle.code.proofs.Few.{keep_beside}
 use Rattle.code.proofs.Reach.{fits, closed, candidate_few, reached_few}
 use Rattle.marks.specs.Marks.{CardInRange}
-use Rattle.marks.specs.declared.CardMark.{CardMark}
-use Rattle.marks.specs.declared.CardMark.TheVariants.{None, Card}
+use Rattle.std.specs.declared.option.Option.{Option}
+use Rattle.std.specs.Prelude.{None, Some}
 use Rattle.reading.specs.Allowed.{further, ChipKind, CardChanged, OfChipKind}
 use Rattle.reading.specs.Reading.{S, LowestReaching, OnCard, Reads}
 use Rattle.reading.proofs.Beside.{in_kept, in_from}
@@ -40,7 +41,7 @@ Either P = P ⊎ (P → ⊥)
 
 differs : (b x : List ℕ) (p : ℕ) → Either (byte b p ≢ byte x p)
 unfolding Either
-differs b x p = go (same (byte b p) (byte x p))
+differs b x p = go (cases_eq (byte b p) (byte x p))
   where
     go : (byte b p ≡ byte x p) ⊎ (byte b p ≢ byte x p) → (byte b p ≢ byte x p) ⊎ (byte b p ≢ byte x p → ⊥)
     go (inl e) = inr (λ n. n e)
@@ -56,7 +57,7 @@ alike_or_not x y lx ly = go (find (λ p. byte x p ≢ byte y p) 45 (λ p l. diff
 
     go : Found (λ p. byte x p ≢ byte y p) 45 → (x ≡ y) ⊎ (x ≢ y)
     go (inl w) = inr (λ e. w.2 (ap (λ (l : List ℕ). byte l w.0) e))
-    go (inr h) = inl (same_block x y lx ly (λ p l. equal p (h p l) (same (byte x p) (byte y p))))
+    go (inr h) = inl (same_block x y lx ly (λ p l. equal p (h p l) (cases_eq (byte x p) (byte y p))))
 
 -- ---- the chip kind
 -- p is changed and not marked
@@ -85,7 +86,7 @@ module _ (ps b x : List ℕ) where
 
   -- where every stray is one of fs
   covered_by : (fs : List ℕ) → length fs ≤ further (length ps) → ((p : ℕ) → p < 45 → stray ps b x p ≡ true → In p fs) → ChipKind ps b x
-  covered_by fs h f = (fs, h, λ p l. go p l (same (byte b p) (byte x p)) (is_in p ps) refl)
+  covered_by fs h f = (fs, h, λ p l. go p l (cases_eq (byte b p) (byte x p)) (is_in p ps) refl)
     where
       go : (p : ℕ) → p < 45 → (byte b p ≡ byte x p) ⊎ (byte b p ≢ byte x p) → (t : Bool) → is_in p ps ≡ t → (byte b p ≡ byte x p) ⊎ (In p ps ⊎ In p fs)
       go p l (inl e) t i = inl e
@@ -128,7 +129,7 @@ module _ (ps b x : List ℕ) where
 
 card_changed : (j : ℕ) (b x : List ℕ) → Either (CardChanged j b x)
 unfolding Either
-card_changed j b x = go (find (λ p. (p / 9 ≡ j) × (byte b p ≢ byte x p)) 45 (λ p l. at p (same (p / 9) j) (differs b x p)))
+card_changed j b x = go (find (λ p. (p / 9 ≡ j) × (byte b p ≢ byte x p)) 45 (λ p l. at p (cases_eq (p / 9) j) (differs b x p)))
   where
     at : (p : ℕ) → (p / 9 ≡ j) ⊎ (p / 9 ≢ j) → (byte b p ≢ byte x p) ⊎ (byte b p ≢ byte x p → ⊥)
         → ((p / 9 ≡ j) × (byte b p ≢ byte x p)) ⊎ ((p / 9 ≡ j) × (byte b p ≢ byte x p) → ⊥)
@@ -141,23 +142,23 @@ card_changed j b x = go (find (λ p. (p / 9 ≡ j) × (byte b p ≢ byte x p)) 4
     go (inr h) = inr (λ w. h w.0 w.1 (w.2, w.3))
 
 module _ (ls : List ℕ) (ok : LabelSet ls) (ps : List ℕ) (few : Few rules ps) (b : List ℕ) (bb : Block b) where
-  chip_or_not : (c : CardMark) (x : List ℕ) → S ls c ps b x → OfChipKind c ps b x ⊎ (OfChipKind c ps b x → ⊥)
+  chip_or_not : (c : Option ℕ) (x : List ℕ) → S ls c ps b x → OfChipKind c ps b x ⊎ (OfChipKind c ps b x → ⊥)
   unfolding Either
   chip_or_not None x s = chip_by ps b x (further (length ps)) refl (further_one (length ps))
-  chip_or_not (Card j) x s = go (card_changed j b x)
+  chip_or_not (Some j) x s = go (card_changed j b x)
     where
-      go : CardChanged j b x ⊎ (CardChanged j b x → ⊥) → OfChipKind (Card j) ps b x ⊎ (OfChipKind (Card j) ps b x → ⊥)
+      go : CardChanged j b x ⊎ (CardChanged j b x → ⊥) → OfChipKind (Some j) ps b x ⊎ (OfChipKind (Some j) ps b x → ⊥)
       go (inl w) = inr (λ k. k.1 w)
       go (inr h) = inl (s.allowed, h)
 
-  on_card : (c : CardMark) (x : List ℕ) → S ls c ps b x → (j : ℕ) × OnCard c j ps b x
+  on_card : (c : Option ℕ) (x : List ℕ) → S ls c ps b x → (j : ℕ) × OnCard c j ps b x
   on_card None x s = let w = covered ls ps b x s in (w.0, (w.1, w.2.only))
-  on_card (Card m) x s = (m, refl)
+  on_card (Some m) x s = (m, refl)
 
-  Read : CardMark → List ℕ → Type 0
+  Read : Option ℕ → List ℕ → Type 0
   Read c out = (a : Answer) × (x : List ℕ) × Reads ls c ps b out a x
 
-  told : (c : CardMark) (out x : List ℕ) → OneMember (S ls c ps b) x → Read c out
+  told : (c : Option ℕ) (out x : List ℕ) → OneMember (S ls c ps b) x → Read c out
   unfolding Read
   told c out x one = go (alike_or_not x b one.0.block.long bb.long) (chip_or_not c x one.0)
     where
@@ -173,11 +174,11 @@ module _ (ls : List ℕ) (ok : LabelSet ls) (ps : List ℕ) (few : Few rules ps)
       go true e = inl (closed ls j (keep j qs) b, reached_few ls ok j hj b bb qs fq (subst T (sym e) tt))
       go false e = inr (λ x r. subst T e (candidate_few ls ok j hj b bb qs fq x r).0)
 
-  Some : ℕ → List ℕ → Type 0
-  Some j qs = (x : List ℕ) × Reached ls j qs b x
+  Meets : ℕ → List ℕ → Type 0
+  Meets j qs = (x : List ℕ) × Reached ls j qs b x
 
-  search_of : (j : ℕ) → j < 5 → (qs : List ℕ) → Few rules qs → Some j qs ⊎ (Some j qs → ⊥)
-  unfolding Some
+  search_of : (j : ℕ) → j < 5 → (qs : List ℕ) → Few rules qs → Meets j qs ⊎ (Meets j qs → ⊥)
+  unfolding Meets
   search_of j hj qs fq = go (reached_or_not j hj qs fq)
     where
       go : ((x : List ℕ) × Reached ls j qs b x) ⊎ ((x : List ℕ) → Reached ls j qs b x → ⊥)
@@ -205,9 +206,9 @@ module _ (ls : List ℕ) (ok : LabelSet ls) (ps : List ℕ) (few : Few rules ps)
           at (inl e) = inr (λ w. w.2 (only y w.0 h w.1 ∙ e))
           at (inr n) = inl (y, h, n)
 
-  pub reads_exist : (c : CardMark) → CardInRange c → (out : List ℕ) → (a : Answer) × (x : List ℕ) × Reads ls c ps b out a x
-  unfolding Read Some Other
-  reads_exist (Card m) hm out = go (find (λ f. Some m (beside_chips qs f)) 45 (λ f l. search_of m hm (beside_chips qs f) (beside_few qs off.0 f l)))
+  pub reads_exist : (c : Option ℕ) → CardInRange c → (out : List ℕ) → (a : Answer) × (x : List ℕ) × Reads ls c ps b out a x
+  unfolding Read Meets Other
+  reads_exist (Some m) hm out = go (find (λ f. Meets m (beside_chips qs f)) 45 (λ f l. search_of m hm (beside_chips qs f) (beside_few qs off.0 f l)))
     where
       -- the marked chips off the card
       qs : List ℕ
@@ -216,13 +217,13 @@ module _ (ls : List ℕ) (ok : LabelSet ls) (ps : List ℕ) (few : Few rules ps)
       off : Beside m qs
       off = keep_beside m ps few
 
-      go : Found (λ f. (x : List ℕ) × Reached ls m (beside_chips qs f) b x) 45 → (a : Answer) × (x : List ℕ) × Reads ls (Card m) ps b out a x
+      go : Found (λ f. (x : List ℕ) × Reached ls m (beside_chips qs f) b x) 45 → (a : Answer) × (x : List ℕ) × Reads ls (Some m) ps b out a x
       go (inl w) =
           let s = in_from m ps b w.2.0 ls (covers_beside m b w.2.0 ls qs off.1 w.0 w.2.1) in
-          told (Card m) out w.2.0 (s, λ y t. card_one ls ok ps few b m hm y w.2.0 t s)
+          told (Some m) out w.2.0 (s, λ y t. card_one ls ok ps few b m hm y w.2.0 t s)
       go (inr h) =
           (refused 10, out, (refl, (λ y t. let w = covered_beside m b y ls qs off.1 (in_kept m ps b y ls t) in h w.0 w.1 (y, w.2)), refl))
-  reads_exist None r out = go (find (λ j. Some j ps) 5 (λ j l. search_of j l ps few))
+  reads_exist None r out = go (find (λ j. Meets j ps) 5 (λ j l. search_of j l ps few))
     where
       go : Found (λ j. (x : List ℕ) × Reached ls j ps b x) 5 → (a : Answer) × (x : List ℕ) × Reads ls None ps b out a x
       go (inr h) = (refused 10, out, (refl, (λ y t. let w = covered ls ps b y t in h w.0 w.1 (y, w.2)), refl))

@@ -19,9 +19,9 @@ use native.Mathlib.Omega.{arith}
 use lib.Dec.{T}
 use lib.ListN.{length, length-append}
 use borrow.Author.Tests.{ne_eqb}
+use Rattle.std.proofs.lemmas.Bool.{cases_eq}
 use Rattle.base.proofs.Few.{few_length, few_more}
 use Rattle.base.specs.Base.{In, Few}
-use Rattle.base.proofs.Tests.{same}
 use Rattle.answer.specs.Answer.{Answer, done, clean, in_chips, in_card, counted, refused, refused_card, number}
 use Rattle.code.specs.Block.{byte, Block, Lawful, DifferOnly, OneMember, TwoMembers}
 use Rattle.code.specs.Labels.{LabelSet}
@@ -31,8 +31,8 @@ use Rattle.code.proofs.Reach.{fits, closed, reached_few}
 use Rattle.code.proofs.Closed.{fits_two}
 use Rattle.code.proofs.Unique.{alike}
 use Rattle.marks.specs.Marks.{CardInRange}
-use Rattle.marks.specs.declared.CardMark.{CardMark}
-use Rattle.marks.specs.declared.CardMark.TheVariants.{None, Card}
+use Rattle.std.specs.declared.option.Option.{Option}
+use Rattle.std.specs.Prelude.{None, Some}
 use Rattle.reading.specs.Allowed.{u, further_beside, ChipKind, CardKind, BesideUpTo, Allowed, CardChanged, OfChipKind}
 use Rattle.reading.specs.Reading.{S, Reaches, LowestReaching, ReadsBy, Reads}
 use Rattle.base.proofs.Lists.{append_in}
@@ -61,13 +61,13 @@ pub reached_by : (ls ps b : List ℕ) (j : ℕ) → Reaches ls ps b j → (j < 5
 reached_by ls ps b j (hj, (y, block, lawful, only)) = (hj, (y, record { block = block; lawful = lawful; only = only }))
 
 -- ---- no byte changed
-pub unchanged : (c : CardMark) (ps b : List ℕ) → OfChipKind c ps b b
+pub unchanged : (c : Option ℕ) (ps b : List ℕ) → OfChipKind c ps b b
 unchanged None ps b = ([], omega arith, λ p l. inl refl)
-unchanged (Card j) ps b = (([], omega arith, λ p l. inl refl), λ d. d.3 refl)
+unchanged (Some j) ps b = (([], omega arith, λ p l. inl refl), λ d. d.3 refl)
 
-chip_allowed : (c : CardMark) (ps b x : List ℕ) → OfChipKind c ps b x → Allowed c ps b x
+chip_allowed : (c : Option ℕ) (ps b x : List ℕ) → OfChipKind c ps b x → Allowed c ps b x
 chip_allowed None ps b x h = inl h
-chip_allowed (Card j) ps b x h = h.0
+chip_allowed (Some j) ps b x h = h.0
 
 fits_off : (ls b : List ℕ) (j p q : ℕ) → p / 9 ≢ j → q / 9 ≢ j → T (fits ls j (keep j (p ∷ q ∷ [])) b)
 unfolding keep
@@ -75,7 +75,7 @@ fits_off ls b j p q np nq = rw (ne_eqb (p / 9) j np, ne_eqb (q / 9) j nq) (subst
 
 -- a card that has neither of two chips
 spare : (p q : ℕ) → (j : ℕ) × (j < 5) × (p / 9 ≢ j) × (q / 9 ≢ j)
-spare p q = go (same (p / 9) 0) (same (q / 9) 0) (same (p / 9) 1) (same (q / 9) 1)
+spare p q = go (cases_eq (p / 9) 0) (cases_eq (q / 9) 0) (cases_eq (p / 9) 1) (cases_eq (q / 9) 1)
   where
     go : (p / 9 ≡ 0) ⊎ (p / 9 ≢ 0) → (q / 9 ≡ 0) ⊎ (q / 9 ≢ 0) → (p / 9 ≡ 1) ⊎ (p / 9 ≢ 1) → (q / 9 ≡ 1) ⊎ (q / 9 ≢ 1)
         → (j : ℕ) × (j < 5) × (p / 9 ≢ j) × (q / 9 ≢ j)
@@ -113,8 +113,8 @@ module _ (ls : List ℕ) (ok : LabelSet ls) (ps : List ℕ) (few : Few rules ps)
       either_side p l (inl z) = z
       either_side p l (inr z) = z
 
-  pub card_one : (m : ℕ) → m < 5 → (x y : List ℕ) → S ls (Card m) ps b x → S ls (Card m) ps b y → x ≡ y
-  card_one m hm x y s t = go (by_kept m ps b x (further_beside (u (Card m) ps)) s.allowed) (by_kept m ps b y (further_beside (u (Card m) ps)) t.allowed)
+  pub card_one : (m : ℕ) → m < 5 → (x y : List ℕ) → S ls (Some m) ps b x → S ls (Some m) ps b y → x ≡ y
+  card_one m hm x y s t = go (by_kept m ps b x (further_beside (u (Some m) ps)) s.allowed) (by_kept m ps b y (further_beside (u (Some m) ps)) t.allowed)
     where
       -- the marked chips off the card
       qs : List ℕ
@@ -139,9 +139,9 @@ module _ (ls : List ℕ) (ok : LabelSet ls) (ps : List ℕ) (few : Few rules ps)
           each rs c p l (inr (inr (inl i))) = inr (c p l (append_in p qs (fs ++ gs) (inl i)))
           each rs c p l (inr (inr (inr i))) = inr (c p l (append_in p qs (fs ++ gs) (inr (append_in p fs gs (inr i)))))
 
-  pub chip_one : (c : CardMark) → CardInRange c → (x : List ℕ) → S ls c ps b x → OfChipKind c ps b x → OneMember (S ls c ps b) x
+  pub chip_one : (c : Option ℕ) → CardInRange c → (x : List ℕ) → S ls c ps b x → OfChipKind c ps b x → OneMember (S ls c ps b) x
   chip_one None r x s h = (s, λ y t. sym (chip_only x y s.block s.lawful h t))
-  chip_one (Card m) r x s h = (s, λ y t. card_one m r y x t s)
+  chip_one (Some m) r x s h = (s, λ y t. card_one m r y x t s)
 
   pub never_none : length ps ≡ 2 → Block b → (x : List ℕ) × S ls None ps b x
   never_none e bb = go ps few e
@@ -158,21 +158,21 @@ module _ (ls : List ℕ) (ok : LabelSet ls) (ps : List ℕ) (few : Few rules ps)
       go (p ∷ q ∷ r ∷ ps) f e = absurd f.2.2
 
   -- ---- clean
-  pub clean_only : (c : CardMark) → CardInRange c → Block b → Lawful ls b → OneMember (S ls c ps b) b
+  pub clean_only : (c : Option ℕ) → CardInRange c → Block b → Lawful ls b → OneMember (S ls c ps b) b
   clean_only c r bb lb =
       chip_one c r b (record { block = bb; lawful = lb; allowed = chip_allowed c ps b b (unchanged c ps b) }) (unchanged c ps b)
 
-  pub clean_reads : (c : CardMark) → CardInRange c → Block b → Lawful ls b → (out : List ℕ) → Reads ls c ps b out clean b
+  pub clean_reads : (c : Option ℕ) → CardInRange c → Block b → Lawful ls b → (out : List ℕ) → Reads ls c ps b out clean b
   clean_reads c r bb lb out = (clean_only c r bb lb, refl)
 
-pub clean_lawful : (ls : List ℕ) (c : CardMark) (ps b out out' : List ℕ) → Reads ls c ps b out clean out' → Lawful ls b
+pub clean_lawful : (ls : List ℕ) (c : Option ℕ) (ps b out out' : List ℕ) → Reads ls c ps b out clean out' → Lawful ls b
 clean_lawful ls c ps b out out' h = subst (Lawful ls) h.1 h.0.0.lawful
 
 -- ---- the marks on the marked card
 -- under a card mark, two sets with the same members and the same kinds read alike, where there are not two
 module _ (j : ℕ) (ps qs b out : List ℕ) (P Q K L : List ℕ → Type 0) (N M : ℕ → Type 0) (to : (x : List ℕ) → P x → Q x) (from : (x : List ℕ) → Q x → P x)
     (chip_to : (x : List ℕ) → K x → L x) (chip_from : (x : List ℕ) → L x → K x) (one : TwoMembers P → ⊥) where
-  reads_alike : (a : Answer) (x : List ℕ) → ReadsBy P K N (Card j) ps b out a x → ReadsBy Q L M (Card j) qs b out a x
+  reads_alike : (a : Answer) (x : List ℕ) → ReadsBy P K N (Some j) ps b out a x → ReadsBy Q L M (Some j) qs b out a x
   reads_alike clean x ((h, only), e) = ((to x h, λ y t. only y (from y t)), e)
   reads_alike (in_chips n) x ((h, only), ne, e, k) = ((to x h, λ y t. only y (from y t)), ne, e, chip_to x k)
   reads_alike (in_card i n) x ((h, only), e, k, on) = ((to x h, λ y t. only y (from y t)), e, (λ l. k (chip_from x l)), on)
@@ -182,17 +182,17 @@ module _ (j : ℕ) (ps qs b out : List ℕ) (P Q K L : List ℕ → Type 0) (N M
   reads_alike (counted v w y z t) x h = absurd h
 
 module _ (ls : List ℕ) (ok : LabelSet ls) (j : ℕ) (hj : j < 5) (b : List ℕ) where
-  pub not_several : (ps : List ℕ) → Few rules ps → TwoMembers (S ls (Card j) ps b) → ⊥
+  pub not_several : (ps : List ℕ) → Few rules ps → TwoMembers (S ls (Some j) ps b) → ⊥
   not_several ps few (x, y, s, t, ne) = ne (card_one ls ok ps few b j hj x y s t)
 
   pub as_unmarked : (ps : List ℕ) → Few rules ps → (out : List ℕ) (a : Answer) (x : List ℕ)
-      → Reads ls (Card j) ps b out a x ↔ Reads ls (Card j) (keep j ps) b out a x
+      → Reads ls (Some j) ps b out a x ↔ Reads ls (Some j) (keep j ps) b out a x
   as_unmarked ps few out a x = (
-    reads_alike j ps qs b out (S ls (Card j) ps b) (S ls (Card j) qs b) (OfChipKind (Card j) ps b) (OfChipKind (Card j) qs b)
+    reads_alike j ps qs b out (S ls (Some j) ps b) (S ls (Some j) qs b) (OfChipKind (Some j) ps b) (OfChipKind (Some j) qs b)
         (LowestReaching ls ps b) (LowestReaching ls qs b)
         (λ y. in_kept j ps b y ls) (λ y. in_from j ps b y ls) (λ y k. (kind_kept j ps b y k.0, k.1)) (λ y k. (kind_from j ps b y k.0, k.1))
         (not_several ps few) a x,
-    reads_alike j qs ps b out (S ls (Card j) qs b) (S ls (Card j) ps b) (OfChipKind (Card j) qs b) (OfChipKind (Card j) ps b)
+    reads_alike j qs ps b out (S ls (Some j) qs b) (S ls (Some j) ps b) (OfChipKind (Some j) qs b) (OfChipKind (Some j) ps b)
         (LowestReaching ls qs b) (LowestReaching ls ps b)
         (λ y. in_from j ps b y ls) (λ y. in_kept j ps b y ls) (λ y k. (kind_from j ps b y k.0, k.1)) (λ y k. (kind_kept j ps b y k.0, k.1))
         (not_several qs (keep_few rules j ps few)) a x,
@@ -204,10 +204,10 @@ module _ (ls : List ℕ) (ok : LabelSet ls) (j : ℕ) (hj : j < 5) (b : List ℕ
 
 -- ---- the kind under a card mark
 module _ (ls : List ℕ) (j : ℕ) (ps b out out' : List ℕ) where
-  pub card_told : (i n : ℕ) → Reads ls (Card j) ps b out (in_card i n) out' → (i ≡ j) × ((CardChanged j b out' → ⊥) → ⊥)
+  pub card_told : (i n : ℕ) → Reads ls (Some j) ps b out (in_card i n) out' → (i ≡ j) × ((CardChanged j b out' → ⊥) → ⊥)
   card_told i n h = (h.3, λ none. h.2 (h.0.0.allowed, none))
 
-  pub by_card : (a : Answer) → Reads ls (Card j) ps b out a out' → number a ≡ 0 → CardChanged j b out' → (n : ℕ) × (a ≡ in_card j n)
+  pub by_card : (a : Answer) → Reads ls (Some j) ps b out a out' → number a ≡ 0 → CardChanged j b out' → (n : ℕ) × (a ≡ in_card j n)
   by_card clean h e (p, l, q, ne) = absurd (ne (ap (λ (x : List ℕ). byte x p) (sym h.1)))
   by_card (in_chips n) h e c = absurd (h.3.1 c)
   by_card (in_card i n) h e c = (n, ap (λ (k : ℕ). in_card k n) h.3)
@@ -216,5 +216,5 @@ module _ (ls : List ℕ) (j : ℕ) (ps b out out' : List ℕ) where
   by_card done h e c = absurd h
   by_card (counted v w x y z) h e c = absurd h
 
-  pub chips_told : (n : ℕ) → Reads ls (Card j) ps b out (in_chips n) out' → CardChanged j b out' → ⊥
+  pub chips_told : (n : ℕ) → Reads ls (Some j) ps b out (in_chips n) out' → CardChanged j b out' → ⊥
   chips_told n h = h.3.1

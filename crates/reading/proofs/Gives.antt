@@ -15,16 +15,16 @@ use Rattle.answer.specs.Cause.{Cause, lowest}
 use Rattle.answer.proofs.Causes.{Positive}
 use Rattle.answer.proofs.Gives.{Readings, was_clean, was_in_chips, was_in_card, was_several, not_read, numbers, by_gives, joined, rest}
 use Rattle.marks.specs.Marks.{CardInRange, LawfulMarks, marked_chips, marks_causes, marks_cause}
-use Rattle.marks.specs.declared.CardMark.{CardMark}
-use Rattle.marks.specs.declared.CardMark.TheVariants.{None, Card}
+use Rattle.std.specs.declared.option.Option.{Option}
+use Rattle.std.specs.Prelude.{None, Some}
 use Rattle.marks.specs.declared.Marks.{Marks}
 use Rattle.marks.proofs.Laws.{cause_lawful, few_chips}
 use Rattle.reading.specs.Reading.{OnCard, ReadsUnder}
 use Rattle.reading.proofs.Limits.{chips_limit, card_limit}
 
-on_card : (card : CardMark) (j : ℕ) (ps b x : List ℕ) → CardInRange card → OnCard card j ps b x → j < 5
+on_card : (card : Option ℕ) (j : ℕ) (ps b x : List ℕ) → CardInRange card → OnCard card j ps b x → j < 5
 on_card None j ps b x r h = h.0
-on_card (Card i) j ps b x r h = omega (arith, r, h)
+on_card (Some i) j ps b x r h = omega (arith, r, h)
 
 pub reads_give : (ns : List ℕ) → In 10 ns → (m : Marks) → LawfulMarks m → (b out : List ℕ) (a : Answer) (out' : List ℕ) → ReadsUnder m b out a out'
     → Readings ns a

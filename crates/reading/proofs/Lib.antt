@@ -5,7 +5,9 @@ pub mod Agree
 pub mod Exists
 pub mod Limits
 pub mod Gives
+pub mod Handed
 pub mod Before
 pub mod Named
 pub mod TwoBad
 pub mod Tied
+pub mod Said

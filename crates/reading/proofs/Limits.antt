@@ -13,16 +13,16 @@ use native.Mathlib.Omega.{arith}
 use lib.Dec.{eqb}
 use lib.ListN.{length, length-append}
 use borrow.Author.Tests.{eq-eqb}
+use Rattle.std.proofs.lemmas.Bool.{cases_eq}
 use Rattle.base.specs.Base.{In, is_in, bit, tally}
 use Rattle.base.proofs.Lists.{in_is_in, append_in}
-use Rattle.base.proofs.Tests.{same}
 use Rattle.base.proofs.Tally.{tally_either, tally_in, tally_card, tally_never, at_most, one_le}
 use Rattle.code.specs.Block.{byte, DifferOnly, changes}
 use Rattle.code.specs.Reach.{keep}
 use Rattle.code.proofs.Few.{keep_short}
 use Rattle.marks.specs.Marks.{CardInRange}
-use Rattle.marks.specs.declared.CardMark.{CardMark}
-use Rattle.marks.specs.declared.CardMark.TheVariants.{None, Card}
+use Rattle.std.specs.declared.option.Option.{Option}
+use Rattle.std.specs.Prelude.{None, Some}
 use Rattle.reading.specs.Allowed.{u, further_beside, ChipKind, BesideUpTo, Allowed, OfChipKind}
 use Rattle.reading.specs.Reading.{OnCard}
 use Rattle.reading.proofs.Beside.{beside_most, by_kept}
@@ -82,7 +82,7 @@ module _ (ps b x : List ℕ) (few : length ps ≤ 2) where
   kept_few : (j : ℕ) → length (keep j ps) ≤ 2
   kept_few j = omega (arith, keep_short j ps, few)
 
-  pub chips_limit : (c : CardMark) → OfChipKind c ps b x → changes b x ≤ 2
+  pub chips_limit : (c : Option ℕ) → OfChipKind c ps b x → changes b x ≤ 2
   chips_limit None (fs, n, d) = omega (
     arith,
     listed_limit b x (ps ++ fs) (λ p h. ⊎_elim inl (λ i. inr (append_in p ps fs i)) (d p h)),
@@ -90,21 +90,21 @@ module _ (ps b x : List ℕ) (few : length ps ≤ 2) where
     further_most (length ps) few,
     n,
   )
-  chips_limit (Card j) (h, off) = go (by_kept j ps b x (further_beside (u (Card j) ps)) h)
+  chips_limit (Some j) (h, off) = go (by_kept j ps b x (further_beside (u (Some j) ps)) h)
     where
       go : BesideUpTo (further_beside (length (keep j ps))) j (keep j ps) b x → changes b x ≤ 2
       go (fs, n, d) = omega (
         arith,
         listed_limit b x (keep j ps ++ fs)
-            (λ p h. off_card (keep j ps) b x j fs (λ p h q e. off (p, h, q, e)) p h (same (byte b p) (byte x p)) (d p h)),
+            (λ p h. off_card (keep j ps) b x j fs (λ p h q e. off (p, h, q, e)) p h (cases_eq (byte b p) (byte x p)) (d p h)),
         length-append (keep j ps) fs,
         beside_most (length (keep j ps)) (kept_few j),
         n,
       )
 
-  pub card_limit : (c : CardMark) → CardInRange c → (j : ℕ) → Allowed c ps b x → OnCard c j ps b x → changes b x ≤ 11
+  pub card_limit : (c : Option ℕ) → CardInRange c → (j : ℕ) → Allowed c ps b x → OnCard c j ps b x → changes b x ≤ 11
   card_limit None r j a (hj, d) = omega (arith, beside_limit b x j hj ps d)
-  card_limit (Card m) r j h o = go (by_kept m ps b x (further_beside (u (Card m) ps)) h)
+  card_limit (Some m) r j h o = go (by_kept m ps b x (further_beside (u (Some m) ps)) h)
     where
       go : BesideUpTo (further_beside (length (keep m ps))) m (keep m ps) b x → changes b x ≤ 11
       go (fs, n, d) = omega (

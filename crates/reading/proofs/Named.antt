@@ -9,8 +9,9 @@ use mathlib.Core.List.{List, []}
 use Prim.Native.Nat.{ℕ, zero, suc, ◌≤◌, ◌<◌}
 use native.Mathlib.Omega.{arith}
 use lib.Dec.{T}
+use Rattle.std.proofs.lemmas.Bool.{cases_lt}
 use Rattle.base.specs.Base.{Few}
-use Rattle.base.proofs.Tests.{lt_or_le, Found, find}
+use Rattle.base.proofs.Tests.{Found, find}
 use Rattle.answer.specs.Answer.{done, clean, in_chips, in_card, counted, refused, refused_card}
 use Rattle.code.specs.Block.{Block, TwoMembers}
 use Rattle.code.specs.Labels.{built_in, LabelSet}
@@ -18,7 +19,7 @@ use Rattle.code.specs.Reach.{rules, keep, Reached}
 use Rattle.code.proofs.BuiltIn.{built_in_set}
 use Rattle.code.proofs.Reach.{fits, closed, candidate_few, reached_few}
 use Rattle.code.proofs.AllOrOne.{all_fit}
-use Rattle.marks.specs.declared.CardMark.TheVariants.{None, Card}
+use Rattle.std.specs.Prelude.{None, Some}
 use Rattle.reading.specs.Reading.{S, Reaches, LowestReaching}
 use Rattle.reading.specs.Named.{StillAllowed, OnlyTheCard, NeverCard4, AllOrOne, UnmarkedNames0}
 use Rattle.reading.proofs.Searches.{covered}
@@ -44,7 +45,7 @@ module _ (ls : List ℕ) (ok : LabelSet ls) (ps : List ℕ) (few : Few rules ps)
 
       go : Found (Reaches ls ps b) 5 → (j : ℕ) × (j ≤ i) × LowestReaching ls ps b j
       go (inr none) = absurd (none i r.0 r)
-      go (inl (j, l, h, none)) = below (lt_or_le i j)
+      go (inl (j, l, h, none)) = below (cases_lt i j)
         where
           below : (i < j) ⊎ (j ≤ i) → (j : ℕ) × (j ≤ i) × LowestReaching ls ps b j
           below (inl z) = absurd (none i z r)
@@ -63,12 +64,12 @@ module _ (ls : List ℕ) (ok : LabelSet ls) (ps : List ℕ) (few : Few rules ps)
 
   -- of two cards that reach one, the lowest is not the last
   not_last : (i k : ℕ) → i ≢ k → Reaches ls ps b i → Reaches ls ps b k → (j : ℕ) → LowestReaching ls ps b j → j < 4
-  not_last i k ne r q j (h, none) = pick (lt_or_le i j) (lt_or_le k j)
+  not_last i k ne r q j (h, none) = pick (cases_lt i j) (cases_lt k j)
     where
       pick : (i < j) ⊎ (j ≤ i) → (k < j) ⊎ (j ≤ k) → j < 4
       pick (inl l) o = absurd (none i l r)
       pick (inr l) (inl m) = absurd (none k m q)
-      pick (inr l) (inr m) = both (lt_or_le i k) (lt_or_le k i)
+      pick (inr l) (inr m) = both (cases_lt i k) (cases_lt k i)
         where
           both : (i < k) ⊎ (k ≤ i) → (k < i) ⊎ (i ≤ k) → j < 4
           both (inl z) o = omega (arith, q.0)
@@ -87,7 +88,7 @@ only_the_card ls ok c ps few b bb out done x h = absurd h
 only_the_card ls ok c ps few b bb out (counted v w y z t) x h = absurd h
 
 pub never_card_4 : NeverCard4
-never_card_4 ls ok (Card m) hm ps few b out n j x (e, two, low, z) = absurd (not_several ls ok m hm b ps few two)
+never_card_4 ls ok (Some m) hm ps few b out n j x (e, two, low, z) = absurd (not_several ls ok m hm b ps few two)
 never_card_4 ls ok None r ps few b out n j x (e, two, low, z) =
     let w = two_cards ls ok ps few b two in
     not_last ls ok ps few b w.0 w.1 w.2 w.3 w.4 j low

@@ -18,7 +18,7 @@ use Rattle.base.specs.Base.{In, Few}
 use Rattle.code.specs.Block.{DifferOnly}
 use Rattle.code.specs.Reach.{rules, Off, Reached}
 use Rattle.code.proofs.Few.{widen}
-use Rattle.marks.specs.declared.CardMark.TheVariants.{None, Card}
+use Rattle.std.specs.Prelude.{None, Some}
 use Rattle.reading.specs.Allowed.{further, further_beside, BesideUpTo, Allowed}
 use Rattle.reading.specs.Reading.{S}
 use Rattle.reading.proofs.Beside.{by_off, from_off}
@@ -123,10 +123,10 @@ module _ (m : ℕ) (b y : List ℕ) where
       each p z (inr i) = inr (inl i)
 
   module _ (ls ps : List ℕ) (off : Off m ps) where
-    pub covered_beside : S ls (Card m) ps b y → (f : ℕ) × (f < 45) × Reached ls m (beside_chips ps f) b y
+    pub covered_beside : S ls (Some m) ps b y → (f : ℕ) × (f < 45) × Reached ls m (beside_chips ps f) b y
     covered_beside s =
         let w = some_beside ps (by_off m ps b y off s.allowed) in
         (w.0, w.1, record { block = s.block; lawful = s.lawful; only = w.2 })
 
-    pub covers_beside : (f : ℕ) → Reached ls m (beside_chips ps f) b y → S ls (Card m) ps b y
+    pub covers_beside : (f : ℕ) → Reached ls m (beside_chips ps f) b y → S ls (Some m) ps b y
     covers_beside f h = record { block = h.block; lawful = h.lawful; allowed = from_off m ps b y off (beside_some ps f h.only) }

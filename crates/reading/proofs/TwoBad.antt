@@ -15,9 +15,9 @@ use Prim.Native.Nat.{ℕ, ◌/◌, ◌<◌, ◌≤◌}
 use native.Mathlib.Omega.{arith}
 use lib.ListN.{length, set, length-set}
 use lib.Seq.{get_or-set_same, get_or-set_other}
+use Rattle.std.proofs.lemmas.Bool.{cases_eq, cases_lt}
 use Rattle.base.specs.Base.{In}
 use Rattle.base.proofs.Few.{few_two}
-use Rattle.base.proofs.Tests.{same, lt_or_le}
 use Rattle.base.proofs.Those.{rising_one}
 use Rattle.answer.specs.Answer.{Answer, in_card, refused}
 use Rattle.code.specs.Block.{byte, Block, Lawful, changes, differing, DifferAt}
@@ -28,7 +28,7 @@ use Rattle.code.proofs.Few.{widen, between}
 use Rattle.code.proofs.Unique.{alike}
 use Rattle.marks.specs.Mark.{of_chips}
 use Rattle.marks.specs.Marks.{marked_chips}
-use Rattle.marks.specs.declared.CardMark.TheVariants.{None}
+use Rattle.std.specs.Prelude.{None}
 use Rattle.marks.specs.declared.Marks.{Marks}
 use Rattle.marks.proofs.Laws.{of_few}
 use Rattle.reading.specs.Allowed.{ChipKind, CardKind}
@@ -65,7 +65,7 @@ in_order b x p q = (to, from)
             positions = (at_p.0, at_q.0);
             different = λ z. omega (arith, less, z);
             changed = (at_p.1, at_q.1);
-            others = λ r l. each r l (w.exactly r).1 (same (byte b r) (byte x r));
+            others = λ r l. each r l (w.exactly r).1 (cases_eq (byte b r) (byte x r));
           },
           less,
         )
@@ -98,12 +98,12 @@ in_order b x p q = (to, from)
 
 -- two bytes are changed
 two_changed : (b x : List ℕ) (p q : ℕ) → TwoBad b x p q → changes b x ≡ 2
-two_changed b x p q t = pick (lt_or_le p q)
+two_changed b x p q t = pick (cases_lt p q)
   where
     pick : (p < q) ⊎ (q ≤ p) → changes b x ≡ 2
     pick (inl l) = sym (differing_exactly b x).many ∙ ap length ((in_order b x p q).1 (t, l))
     pick (inr l) =
-        sym (differing_exactly b x).many ∙ ap length ((in_order b x q p).1 (swapped b x p q t, less (same p q)))
+        sym (differing_exactly b x).many ∙ ap length ((in_order b x q p).1 (swapped b x p q t, less (cases_eq p q)))
       where
         less : (p ≡ q) ⊎ (p ≢ q) → q < p
         less (inl e) = absurd (t.different e)
@@ -120,7 +120,7 @@ counted_two b x = (λ e. go (differing b x) refl ((differing_exactly b x).many �
 
 -- ---- any two chips can be so changed
 set_block : (x : List ℕ) (p v : ℕ) → p < 45 → v < 256 → Block x → Block (set x p v)
-set_block x p v hp hv bx = record { long = length-set x p v ∙ bx.long; bytes = λ r l. at r l (same r p) }
+set_block x p v hp hv bx = record { long = length-set x p v ∙ bx.long; bytes = λ r l. at r l (cases_eq r p) }
   where
     at : (r : ℕ) → r < 45 → (r ≡ p) ⊎ (r ≢ p) → byte (set x p v) r < 256
     at r l (inl e) = subst (λ (z : ℕ). z < 256) (sym (ap (byte (set x p v)) e ∙ get_or-set_same x p v 0 (omega (arith, bx.long, hp)))) hv
@@ -131,7 +131,7 @@ two_set x long p q v w hp hq ne nv nw = record {
   positions = (hp, hq);
   different = ne;
   changed = ((λ e. nv (sym e ∙ at_p)), λ e. nw (sym e ∙ at_q));
-  others = λ r l. each r (same r p) (same r q);
+  others = λ r l. each r (cases_eq r p) (cases_eq r q);
 }
   where
     at_p : byte (set (set x p v) q w) p ≡ v
@@ -205,7 +205,7 @@ module _ (ls : List ℕ) (ok : LabelSet ls) (x : List ℕ) (bx : Block x) (lx : 
       pick h (inr n) = let w = (reads_only ls None [] b out (refused 10) out (reads_none n out) a out').0 h in inr (n, w.0, w.1)
 
       to : Reads ls None [] b out a out' → TwoSay p q x out a out'
-      to h = pick h (same (p / 9) (q / 9))
+      to h = pick h (cases_eq (p / 9) (q / 9))
 
       from : TwoSay p q x out a out' → Reads ls None [] b out a out'
       from (inl (e, i, o)) = (reads_only ls None [] b out (in_card (p / 9) 2) x (reads_card e out) a out').1 (i, o)

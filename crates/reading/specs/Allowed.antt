@@ -12,13 +12,13 @@ use Rattle.std.specs.Prelude.{◌≡◌, ◌⊎◌, ◌≢◌, List, ℕ, zero, 
 use Rattle.base.specs.Base.{In}
 use Rattle.code.specs.Block.{byte, DifferOnly}
 use Rattle.code.specs.Reach.{keep}
-use Rattle.marks.specs.declared.CardMark.{CardMark}
-use Rattle.marks.specs.declared.CardMark.TheVariants.{None, Card}
+use Rattle.std.specs.declared.option.Option.{Option}
+use Rattle.std.specs.Prelude.{None, Some}
 
 -- "Let u be the count of chip marks." Order 5: "u, under a card mark, counts only the chip marks outside the marked card."
-abbrev pub u : CardMark → List ℕ → ℕ
+abbrev pub u : Option ℕ → List ℕ → ℕ
 u None ps = length ps
-u (Card j) ps = length (keep j ps)
+u (Some j) ps = length (keep j ps)
 
 -- "at most one further chip if u is 0 or 1, none further if u is 2"
 abbrev pub further : ℕ → ℕ
@@ -47,17 +47,17 @@ CardKind j ps b x = DifferOnly (λ p. (p / 9 ≡ j) ⊎ In p ps) b x
 
 -- "any change in card j and in marked chips, and in one further chip if u is 0"
 abbrev pub BesideKind : ℕ → List ℕ → List ℕ → List ℕ → Type 0
-BesideKind j ps b x = BesideUpTo (further_beside (u (Card j) ps)) j ps b x
+BesideKind j ps b x = BesideUpTo (further_beside (u (Some j) ps)) j ps b x
 
-abbrev pub Allowed : CardMark → List ℕ → List ℕ → List ℕ → Type 0
+abbrev pub Allowed : Option ℕ → List ℕ → List ℕ → List ℕ → Type 0
 Allowed None ps b x = ChipKind ps b x ⊎ ((j : ℕ) × (j < 5) × CardKind j ps b x)
-Allowed (Card j) ps b x = BesideKind j ps b x
+Allowed (Some j) ps b x = BesideKind j ps b x
 
 -- a byte of card j is changed
 abbrev pub CardChanged : ℕ → List ℕ → List ℕ → Type 0
 CardChanged j b x = (p : ℕ) × (p < 45) × (p / 9 ≡ j) × (byte b p ≢ byte x p)
 
 -- "Under a card mark the chip kind is every allowed change that touches no byte of card j."
-abbrev pub OfChipKind : CardMark → List ℕ → List ℕ → List ℕ → Type 0
+abbrev pub OfChipKind : Option ℕ → List ℕ → List ℕ → List ℕ → Type 0
 OfChipKind None ps b x = ChipKind ps b x
-OfChipKind (Card j) ps b x = BesideKind j ps b x × (CardChanged j b x → ⊥)
+OfChipKind (Some j) ps b x = BesideKind j ps b x × (CardChanged j b x → ⊥)

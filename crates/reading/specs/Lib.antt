@@ -3,3 +3,4 @@ pub mod Reading
 pub mod Before
 pub mod Named
 pub mod TwoBad
+pub mod Said

@@ -15,7 +15,7 @@ use Rattle.answer.specs.Answer.{Answer, in_card, refused}
 use Rattle.code.specs.Block.{byte, Block, Lawful, DifferOnly, changes, differing}
 use Rattle.code.specs.Labels.{built_in, LabelSet}
 use Rattle.marks.specs.Marks.{LawfulMarks, fresh_marks, marked_chips}
-use Rattle.marks.specs.declared.CardMark.TheVariants.{None}
+use Rattle.std.specs.Prelude.{None}
 use Rattle.marks.specs.declared.Marks.{Marks}
 use Rattle.reading.specs.Reading.{S, Reads, ReadsUnder}
 

@@ -3,7 +3,11 @@
 #![tactic(auto)]
 
 ghost use Rattle.std.specs.Prelude.{◌≡◌};
+ghost use Rattle.answer.specs.Answer.{refusal_number};
 ghost use Rattle.reading.specs.Allowed.{further};
+ghost use Rattle.reading.specs.declared.Fault.TheVariants.{Refused};
+
+use answer::Refusal;
 
 // How a block was corrected, n being the number of bytes changed.
 #[derive(Clone, Copy)]
@@ -15,22 +19,31 @@ pub enum Kind {
     OneCard(u8, u8),
 }
 
+// Why a block was not corrected.
 #[derive(Clone, Copy)]
-pub enum Reading {
-    Corrected(Kind),
+pub enum Fault {
     // 11: more than one lawful block differs from the one read as the marks allow. The card is the lowest of which a change, with one of
     // marked chips, reaches a lawful block.
     Several(u8),
-    // The number of the cause; 10: no lawful block does.
+    // The number of the refusal; 10: no lawful block does. It stays a number, as a reading that is handed in may have any: crate slip's `write`
+    // refuses those that no reading gives.
     Refused(u8),
+}
+
+// What a reading of a block says.
+pub type Reading = Result<Kind, Fault>;
+
+impl From<Refusal> for Fault {
+    ghost from_gives = { λ r fault. fault ≡ Refused (refusal_number r) };
+
+    fn from(r: Refusal) -> Fault {
+        Fault::Refused(r.number())
+    }
 }
 
 // How many further chips the chip kind allows under u chip marks and no card mark.
 pub fn further(u: u8) -> u8
     ensures { result ≡ further u }
 {
-    if u < 2 {
-        return 1;
-    }
-    0
+    u8::from(u < 2)
 }

@@ -2,11 +2,12 @@
 --
 --   unknown, known        a number that is no command's; a command that runs is known
 --   Comes                 the bytes that tell an answer fit their registers, and it comes back from them; so do its number and the bit that it sets
---   get_fits, patrol_fits, mark_fits   of each library call
+--   get_fits, patrol_fits              of the calls that read
+--   number_fits                        16 plus a refusal's number is a byte
 --   runs_come, answers_back            of every command
 --   Eleven                a card comes with 11 alone; reads_eleven, by_eleven, runs_eleven: so it does
 --   refused_keeps         a refused command leaves marks, bank, output and window as they were
-use Prim.Native.Nat.{ℕ, zero, suc, ◌+◌, ◌-◌, ◌*◌, ◌/◌, ◌%◌, ◌≤◌}
+use Prim.Native.Nat.{ℕ, zero, suc, ◌+◌, ◌-◌, ◌*◌, ◌/◌, ◌%◌, ◌≤◌, ◌<◌}
 use mathlib.Core.Path.{◌≡◌, refl, sym, ap, ◌∙◌, subst}
 use mathlib.Core.Logic.{◌≢◌}
 use mathlib.Core.Bool.{true, false}
@@ -16,7 +17,11 @@ use lib.Dec.{eqb}
 use lib.ListN.{length}
 use borrow.Author.Tests.{ne_eqb}
 use Rattle.base.specs.Base.{if}
-use Rattle.answer.specs.Answer.{Answer, done, clean, in_chips, in_card, counted, refused, refused_card, number, By}
+use Rattle.answer.specs.Answer.{Answer, done, clean, in_chips, in_card, counted, refused, refused_card, number, By, refusal_number}
+use Rattle.answer.specs.declared.Refusal.{Refusal}
+use Rattle.answer.specs.declared.Refusal.TheVariants.{BlockLength, OutputLength, RecordLength, BankLength, BlockNumber, MarkRange, EqualMarks}
+use Rattle.answer.specs.declared.Refusal.TheVariants.{TooManyMarks, NotMarked, NoLawfulBlock, RegisterAddress, ReadOnlyRegister, UnknownCommand}
+use Rattle.answer.specs.declared.Refusal.TheVariants.{SlipCutOff, NoSuchSlip, NoRoom}
 use Rattle.answer.proofs.Gives.{Outcomes, was_done, was_refused, Readings, was_clean, was_in_chips, was_in_card, was_several, not_read}
 use Rattle.answer.proofs.Gives.{numbered, number_of}
 use Rattle.marks.specs.Mark.{mark_cause, MarkDone}
@@ -33,8 +38,8 @@ use Rattle.bank.proofs.Done.{patrol_unread}
 use Rattle.registers.specs.Write.{command_of, is_unknown, Runs, answer_byte, detail_byte, pending_bit, ToldFits}
 use Rattle.registers.specs.Plain.{answer_in, AnswersBack, RefusedKeeps}
 use Rattle.registers.specs.declared.Registers.{Registers}
-use Rattle.registers.specs.declared.Command.{Command}
-use Rattle.registers.specs.declared.Command.TheVariants.{Get, Patrol, Mark, Unknown}
+use Rattle.registers.specs.Write.{Command}
+use Rattle.registers.specs.Write.{Get, Patrol, Mark, Unknown}
 
 -- ---- which numbers are known
 pub unknown : (r : Registers) (v : ℕ) → v ≢ 1 → v ≢ 2 → v ≢ 3 → v ≢ 4 → v ≢ 5 → v ≢ 6 → command_of r v ≡ Unknown
@@ -133,8 +138,23 @@ get_fits bank k m out win a bank' out' win' w = (runs_come m (Get k) bank out wi
 pub patrol_fits : (bank : List ℕ) (k : ℕ) (m : Marks) (win : List ℕ) (a : Answer) (bank' win' : List ℕ) → PatrolDone bank k m win a bank' win' → ToldFits a
 patrol_fits bank k m win a bank' win' w = (runs_come m (Patrol k) bank [] win a m bank' [] win' (w, refl, refl)).fit
 
-pub mark_fits : (m : Marks) (c : MarkCall) (a : Answer) (m' : Marks) → MarkDone m c a m' → ToldFits a
-mark_fits m c a m' w = (runs_come m (Mark c) [] [] [] a m' [] [] [] (w, refl, refl, refl)).fit
+pub number_fits : (r : Refusal) → 16 + refusal_number r < 256
+number_fits BlockLength = omega arith
+number_fits OutputLength = omega arith
+number_fits RecordLength = omega arith
+number_fits BankLength = omega arith
+number_fits BlockNumber = omega arith
+number_fits MarkRange = omega arith
+number_fits EqualMarks = omega arith
+number_fits TooManyMarks = omega arith
+number_fits NotMarked = omega arith
+number_fits NoLawfulBlock = omega arith
+number_fits RegisterAddress = omega arith
+number_fits ReadOnlyRegister = omega arith
+number_fits UnknownCommand = omega arith
+number_fits SlipCutOff = omega arith
+number_fits NoSuchSlip = omega arith
+number_fits NoRoom = omega arith
 
 pub answers_back : AnswersBack
 answers_back m c bank out win a m' bank' out' win' w = (runs_come m c bank out win a m' bank' out' win' w).back

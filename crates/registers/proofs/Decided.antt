@@ -11,8 +11,8 @@ use Rattle.marks.proofs.Plain.{mark_decided}
 use Rattle.bank.proofs.Decided.{get_decided, patrol_decided}
 use Rattle.registers.specs.Write.{command_of, Runs, ran, write_cause, Writes, WriteDone}
 use Rattle.registers.specs.Plain.{WriteDecided}
-use Rattle.registers.specs.declared.Command.{Command}
-use Rattle.registers.specs.declared.Command.TheVariants.{Get, Patrol, Mark, Unknown}
+use Rattle.registers.specs.Write.{Command}
+use Rattle.registers.specs.Write.{Get, Patrol, Mark, Unknown}
 
 -- ---- two outcomes of a command
 pub record Same (a a' : Answer) (m m' : Marks) (x x' y y' z z' : List ℕ) : Type 0 where

@@ -13,7 +13,7 @@ use lib.Bits.{bit_and, bit_or, bit_xor, and_shr, and_mod, or_shr, or_mod, xor_sh
 use lib.Dec.{eqb}
 use lib.Pow.{pow_pos}
 use borrow.Author.Tests.{eqb-false, eq-eqb, ne_eqb}
-use Rattle.base.proofs.Tests.{or_false}
+use Rattle.std.proofs.lemmas.Bool.{or_parts}
 use Rattle.registers.specs.Registers.{is_set, with_bits, without_bits, share}
 
 -- ---- each bit by itself
@@ -99,7 +99,7 @@ share_none zero x y h e = omega arith
 share_none (suc n) x y h e = share_none n x y below rest.1
   where
     rest : ((is_set n x && is_set n y) ≡ false) × (share n x y ≡ false)
-    rest = or_false (is_set n x && is_set n y) (share n x y) e
+    rest = or_parts (is_set n x && is_set n y) (share n x y) e
 
     top : bit_and x y / 2 ^ n < 2
     top = (div-lt_iff_lt-mul (pow_pos n)).1 (subst (λ (m : ℕ). bit_and x y < m) (pow-succ' 2 n) h)

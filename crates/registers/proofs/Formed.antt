@@ -23,8 +23,8 @@ use Rattle.marks.proofs.Laws.{bytes_marks_in, marks_in_bytes, marked_lawful, mar
 use Rattle.registers.specs.Registers.{register_bytes, registers_in, cells, fresh_registers}
 use Rattle.registers.specs.Write.{command_of, is_unknown, Runs, read_only, write_cause, Writes, WriteDone}
 use Rattle.registers.specs.declared.Registers.{Registers}
-use Rattle.registers.specs.declared.Command.{Command}
-use Rattle.registers.specs.declared.Command.TheVariants.{Get, Patrol, Mark, Unknown}
+use Rattle.registers.specs.Write.{Command}
+use Rattle.registers.specs.Write.{Get, Patrol, Mark, Unknown}
 use Rattle.registers.proofs.Plain.{cells_are}
 
 pub record Formed (r : Registers) : Type 0 where

@@ -26,8 +26,8 @@ use Rattle.registers.specs.Write.{command_of, Runs, answer_byte, detail_byte, pe
 use Rattle.registers.specs.Plain.{answer_in, CommandLeaves, CommandsLeave, CommandAgain, AgainFigures}
 use Rattle.registers.specs.Plain.{StoresLeave}
 use Rattle.registers.specs.declared.Registers.{Registers}
-use Rattle.registers.specs.declared.Command.{Command}
-use Rattle.registers.specs.declared.Command.TheVariants.{Mark}
+use Rattle.registers.specs.Write.{Command}
+use Rattle.registers.specs.Write.{Mark}
 use Rattle.registers.proofs.Digits.{with_at, without_at}
 use Rattle.registers.proofs.Commands.{Comes, runs_come, Eleven, runs_eleven, refused_keeps}
 use Rattle.registers.proofs.Writes.{known_0}

@@ -5,4 +5,5 @@ pub mod Plain
 pub mod Leaves
 pub mod Formed
 pub mod Decided
+pub mod Said
 pub mod Tied

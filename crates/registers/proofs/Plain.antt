@@ -2,8 +2,9 @@
 --
 --   raised_exactly, command_figures, told_figures, bits_after, write_numbers, read_numbers, twelve_bytes, each_byte, fresh_bytes, bytes_back
 --   cells_are    all the bytes of a list, from one on
+--   told_front   four of eight bytes written one by one; read_is: the byte at an address, looked up
 use Prim.Native.Nat.{ℕ, zero, suc, ◌+◌, ◌≤◌, ◌<◌}
-use mathlib.Core.Path.{◌≡◌, refl, sym, ap, ◌∙◌}
+use mathlib.Core.Path.{◌≡◌, refl, sym, ap, ◌∙◌, subst}
 use mathlib.Core.Logic.{◌≢◌, ◌⊎◌, inl, inr, ◌↔◌}
 use mathlib.Core.Bool.{false}
 use mathlib.Core.List.{List, ◌∷◌, ◌++◌}
@@ -11,18 +12,27 @@ use native.Mathlib.Decide.{dec_lt}
 use native.Mathlib.Numerals.{add-one}
 use native.Mathlib.Omega.{arith}
 use lib.Dec.{ltb}
-use lib.ListN.{length, get_or, drop}
+use lib.ListN.{length, get_or, set, drop}
 use lib.Seq.{drop-cons, drop-length, get_or-append-add}
 use borrow.Author.Tests.{lt-ltb, le-ltb}
-use Rattle.base.proofs.Tests.{same}
+use Rattle.std.proofs.lemmas.Bool.{cases_eq}
 use Rattle.marks.specs.Marks.{bytes}
 use Rattle.marks.proofs.Laws.{bytes_marks_in}
-use Rattle.registers.specs.Registers.{raised, registers_in, cells}
-use Rattle.registers.specs.Write.{command_of, is_unknown, read_value}
+use Rattle.std.specs.Int.Bits.{bit_or}
+use Rattle.std.specs.declared.option.Option.{Option}
+use Rattle.std.specs.declared.result.Result.{Result}
+use Rattle.std.specs.Prelude.{None, Some, Err}
+use Rattle.std.specs.Borrow.{Bor}
+use Rattle.std.specs.Option.{ok_or, option_copied}
+use Rattle.std.specs.Slice.{IsItemAt}
+use Rattle.answer.specs.declared.Refusal.{Refusal}
+use Rattle.registers.specs.Registers.{raised, register_bytes, registers_in, cells, with_bits}
+use Rattle.registers.specs.Write.{command_of, is_unknown, after_command, value_said, read_value}
+use Rattle.registers.specs.declared.answers.Told.{Told}
 use Rattle.registers.specs.Plain.{RaisedExactly, BitsAfter, WriteNumbers, ReadNumbers}
 use Rattle.registers.specs.Plain.{CommandFigures, ToldFigures, TwelveBytes, EachByte, FreshBytes, BytesBack}
 use Rattle.registers.specs.declared.Registers.{Registers}
-use Rattle.registers.specs.declared.Value.TheVariants.{Byte, Refused}
+use Rattle.registers.specs.Write.{Byte, Refused}
 use Rattle.registers.proofs.Digits.{with_at, without_at, share_true, share_found}
 use Rattle.registers.proofs.Commands.{unknown}
 use Rattle.registers.proofs.Writes.{above_11, read_13, plain_0, unknown_14, command_0}
@@ -149,13 +159,13 @@ module _ (r : Registers) (v : ℕ) where
       not (inr h) = omega arith
 
 pub write_numbers : (r : Registers) (a v : ℕ) → WriteNumbers r a v
-write_numbers r zero v = at (same v 0) (dec_lt 6 v)
+write_numbers r zero v = at (cases_eq v 0) (dec_lt 6 v)
   where
     at : (v ≡ 0) ⊎ (v ≢ 0) → Dec (6 < v) → WriteNumbers r 0 v
     at (inl e) d = not_a_command r v (inl e)
     at (inr n) (yes h) = not_a_command r v (inr h)
     at (inr n) (no h) = a_command r v (omega arith) (omega arith)
-write_numbers r (suc a) v = at (dec_lt 11 (suc a)) (same (suc a) 4) (same (suc a) 5) (same (suc a) 6) (same (suc a) 7)
+write_numbers r (suc a) v = at (dec_lt 11 (suc a)) (cases_eq (suc a) 4) (cases_eq (suc a) 5) (cases_eq (suc a) 6) (cases_eq (suc a) 7)
   where
     at : Dec (11 < suc a) → (suc a ≡ 4) ⊎ (suc a ≢ 4) → (suc a ≡ 5) ⊎ (suc a ≢ 5) → (suc a ≡ 6) ⊎ (suc a ≢ 6) → (suc a ≡ 7) ⊎ (suc a ≢ 7)
         → WriteNumbers r (suc a) v
@@ -211,3 +221,31 @@ cells_are (suc n) p b e =
 pub bytes_back : BytesBack
 unfolding registers_in
 bytes_back b e = ap (λ (l : List ℕ). cells b 0 8 ++ l) (bytes_marks_in (cells b 8 4) refl) ∙ cells_are 12 0 b e
+
+-- ---- as the code reads and writes them
+-- four of eight written one by one
+pub told_front : (r : Registers) (v : ℕ) (t : Told) → length r.front ≡ 8
+    → record {
+      front = set (set (set (set r.front 0 v) 4 t.answer) 5 t.detail) 7
+          (bit_or (get_or (set (set (set r.front 0 v) 4 t.answer) 5 t.detail) 7 0) t.bit);
+      marks = r.marks;
+    } ≡ after_command r v t r.marks
+unfolding with_bits
+told_front r v t e =
+    subst (λ (l : List ℕ). record {
+      front = set (set (set (set l 0 v) 4 t.answer) 5 t.detail) 7 (bit_or (get_or (set (set (set l 0 v) 4 t.answer) 5 t.detail) 7 0) t.bit);
+      marks = r.marks;
+    } ≡ after_command (record { front = l; marks = r.marks }) v t r.marks)
+    (cells_are 8 0 r.front e) refl
+
+-- the byte at an address, where one stands there, or else the refusal with number 12
+found : (r : Registers) (a : ℕ) (g : Option (Bor ℕ)) (e : Refusal) → value_said (Err e) ≡ Refused 12 → IsItemAt (register_bytes r) a g
+    → value_said (ok_or (option_copied g) e) ≡ read_value r a
+unfolding read_value
+found r a None e n h = simp (lt-ltb 11 a (omega (arith, h.3))) n
+found r a (Some x) e n h = simp (le-ltb 11 a (omega (arith, h.3.0)), h.4 (omega arith) 0)
+
+pub read_is : (r : Registers) (a : ℕ) (b : List ℕ) (g : Option (Bor ℕ)) (o : Option ℕ) (x : Result ℕ Refusal) (e : Refusal) → b ≡ register_bytes r
+    → IsItemAt b a g → o ≡ option_copied g → x ≡ ok_or o e → value_said (Err e) ≡ Refused 12 → value_said x ≡ read_value r a
+read_is r a b g o x e p h q s n =
+    ap value_said (s ∙ ap (λ (y : Option ℕ). ok_or y e) q) ∙ found r a g e n (subst (λ (l : List ℕ). IsItemAt l a g) p h)

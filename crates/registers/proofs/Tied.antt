@@ -7,7 +7,7 @@ use denote.Triple.Clauses
 use mathlib.Core.Path.{◌≡◌}
 use Rattle.answer.specs.Answer.{outcome_answer}
 use Rattle.registers.specs.Registers.{fresh_registers, register_bytes, registers_in, raised}
-use Rattle.registers.specs.Write.{WriteDone, read_value}
+use Rattle.registers.specs.Write.{WriteDone, value_said, read_value}
 use Rattle.registers.specs.contracts.write as write
 use Rattle.registers.proofs.write.Kinds as write_kinds
 use Rattle.registers.proofs.write.Reads as write_reads
@@ -27,18 +27,18 @@ use Rattle.registers.specs.contracts.to_bytes as to_bytes
 use Rattle.registers.proofs.to_bytes.Kinds as to_bytes_kinds
 use Rattle.registers.proofs.to_bytes.Reads as to_bytes_reads
 
-pub write_tied : (κs : Lifetimes.Lfts 3) (a : World.ArgsD write.signature κs) (r : World.ResD write.signature κs)
-    (s : Clauses.AtExit (Kinds.ended_of 3 write_kinds.ps write_kinds.r) κs) → write_reads.Learnt κs a r s
-    → WriteDone a.0 a.1.0 a.1.1.0 a.1.1.1.0.now a.1.1.1.1.0.now a.1.1.1.1.1.0.now (outcome_answer r.answer)
-    r.registers s.1.1.1.0.now s.1.1.1.1.0.now s.1.1.1.1.1.0.now
+pub write_tied : (κs : Lifetimes.Lfts 4) (a : World.ArgsD write.signature κs) (r : World.ResD write.signature κs)
+    (s : Clauses.AtExit (Kinds.ended_of 4 write_kinds.ps write_kinds.r) κs) → write_reads.Learnt κs a r s
+    → WriteDone a.0.now a.1.0 a.1.1.0 a.1.1.1.0.now a.1.1.1.1.0.now a.1.1.1.1.1.0.now (outcome_answer r)
+    s.0.now s.1.1.1.0.now s.1.1.1.1.0.now s.1.1.1.1.1.0.now
 write_tied κs a r s l = l
 
-pub write_asks : (κs : Lifetimes.Lfts 3) (a : World.ArgsD write.signature κs) → write_reads.Asked κs a
+pub write_asks : (κs : Lifetimes.Lfts 4) (a : World.ArgsD write.signature κs) → write_reads.Asked κs a
 write_asks κs a = tt
 
 pub read_tied : (κs : Lifetimes.Lfts 0) (a : World.ArgsD read.signature κs) (r : World.ResD read.signature κs)
     (s : Clauses.AtExit (Kinds.ended_of 0 read_kinds.ps read_kinds.r) κs) → read_reads.Learnt κs a r s
-    → r ≡ read_value a.0 a.1.0
+    → value_said r ≡ read_value a.0 a.1.0
 read_tied κs a r s l = l
 
 pub read_asks : (κs : Lifetimes.Lfts 0) (a : World.ArgsD read.signature κs) → read_reads.Asked κs a

@@ -11,8 +11,8 @@ use native.Mathlib.Omega.{arith}
 use lib.Dec.{eqb}
 use lib.ListN.{set}
 use borrow.Author.Tests.{eq-eqb, ne_eqb, lt-ltb, le-ltb, le-leb, lt-leb}
+use Rattle.std.proofs.lemmas.Bool.{cases_eq}
 use Rattle.base.specs.Base.{if}
-use Rattle.base.proofs.Tests.{same}
 use Rattle.answer.specs.Answer.{Answer, done, refused}
 use Rattle.answer.specs.Cause.{cause}
 use Rattle.answer.proofs.Causes.{first_holds, by_refused, by_done}
@@ -20,14 +20,14 @@ use Rattle.marks.specs.declared.Marks.{Marks}
 use Rattle.registers.specs.Registers.{register, without_bits}
 use Rattle.registers.specs.Write.{command_of, is_unknown, Runs, told_by, after_command, read_only, write_cause, WriteDone}
 use Rattle.registers.specs.declared.Registers.{Registers}
-use Rattle.registers.specs.declared.Command.{Command}
-use Rattle.registers.specs.declared.Command.TheVariants.{Unknown}
+use Rattle.registers.specs.Write.{Command}
+use Rattle.registers.specs.Write.{Unknown}
 use Rattle.registers.specs.declared.answers.Told.{Told}
 use Rattle.registers.proofs.Commands.{known}
 
 -- ---- the number
 read_only_is : (a : ℕ) → 4 ≤ a → a < 12 → a ≢ 6 → a ≢ 7 → read_only a ≡ true
-read_only_is a lo hi n m = go (same a 4) (same a 5)
+read_only_is a lo hi n m = go (cases_eq a 4) (cases_eq a 5)
   where
     go : (a ≡ 4) ⊎ (a ≢ 4) → (a ≡ 5) ⊎ (a ≢ 5) → read_only a ≡ true
     go (inl e) s = simp (eq-eqb a 4 e)

@@ -9,12 +9,15 @@
 --   CommandLeaves       what a command does: the call's answer, its marks, bank, output and window; which registers it leaves, and which bit it sets
 --   CommandAgain         what a command does that places a mark which is there: order 3; AgainFigures: in figures
 --   StoreLeaves         what a write to another byte does
---   ReadNumbers         when a read is refused, and what it finds
+--   ReadNumbers         when a read is refused, and what it finds; ReadSays: the same of what the code returns
 --   WriteDecided        two outcomes of a write agree
 --   TwelveBytes, EachByte, FreshBytes, BytesBack   the registers are twelve bytes; which stands where; those at the start; any twelve come back
-use Rattle.std.specs.Prelude.{ℕ, ◌+◌, ◌-◌, ◌*◌, ◌/◌, ◌%◌, ◌≤◌, ◌<◌, ◌≡◌, ◌≢◌, ◌⊎◌, ◌↔◌, true, ◌&&◌, ◌||◌, not, List, [], ◌∷◌, eqb, length, get_or}
+use Rattle.std.specs.Prelude.{ℕ, ◌+◌, ◌-◌, ◌*◌, ◌/◌, ◌%◌, ◌≤◌, ◌<◌, ◌≡◌, ◌≢◌, ◌⊎◌, ◌↔◌, true, ◌&&◌, ◌||◌, not, List, [], ◌∷◌, eqb, length, get_or, Ok, Err}
+use Rattle.std.specs.declared.result.Result.{Result}
 use Rattle.base.specs.Base.{if, In}
 use Rattle.answer.specs.Answer.{Answer, done, clean, in_chips, in_card, counted, refused, refused_card, number}
+use Rattle.answer.specs.declared.Refusal.{Refusal}
+use Rattle.answer.specs.declared.Refusal.TheVariants.{RegisterAddress}
 use Rattle.marks.specs.Marks.{bytes, of_bytes, fresh_marks, LawfulMarks}
 use Rattle.marks.specs.Mark.{Already}
 use Rattle.marks.specs.declared.Marks.{Marks}
@@ -23,9 +26,9 @@ use Rattle.marks.specs.declared.MarkCall.TheVariants.{PlaceChip, LiftChip, Place
 use Rattle.registers.specs.Registers.{register_bytes, registers_in, register, fresh_registers, is_set, with_bits, without_bits, raised, Raised}
 use Rattle.registers.specs.Write.{command_of, write_cause, Runs, answer_byte, detail_byte, pending_bit, ran, WriteDone, read_value}
 use Rattle.registers.specs.declared.Registers.{Registers}
-use Rattle.registers.specs.declared.Command.{Command}
-use Rattle.registers.specs.declared.Command.TheVariants.{Get, Patrol, Mark}
-use Rattle.registers.specs.declared.Value.TheVariants.{Byte, Refused}
+use Rattle.registers.specs.Write.{Command}
+use Rattle.registers.specs.Write.{Get, Patrol, Mark}
+use Rattle.registers.specs.Write.{Byte, Refused}
 
 -- "The interrupt is raised exactly while bytes 6 and 7 share a set bit."
 abbrev pub RaisedExactly : Type 0
@@ -141,6 +144,11 @@ StoresLeave = (r : Registers) (a v : ℕ) (bank out w : List ℕ) (x : Answer) (
 pub record ReadNumbers (r : Registers) (a : ℕ) : Type 0 where
   pub twelve : (read_value r a ≡ Refused 12) ↔ (11 < a)
   pub byte : a ≤ 11 → read_value r a ≡ Byte (get_or (register_bytes r) a 0)
+
+-- the same of what the code returns
+pub record ReadSays (r : Registers) (a : ℕ) (x : Result ℕ Refusal) : Type 0 where
+  pub byte : (b : ℕ) → (x ≡ Ok b) ↔ ((a ≤ 11) × (b ≡ get_or (register_bytes r) a 0))
+  pub address : (x ≡ Err RegisterAddress) ↔ (11 < a)
 
 -- ---- what a write does is decided
 abbrev pub WriteDecided : Type 0

@@ -1,29 +1,48 @@
 -- The write call and the read call. Document 02, order 1.
 --
+--   Command, command_said   what a command asks of the library, and as the code says it
 --   command_of r v     what the number of a command asks of the library, by the bytes in the registers
 --   Runs               what the library's own call says
 --   answer_byte, detail_byte   bytes 4 and 5 for an answer; pending_bit: the bit of byte 7; told_by: the three together
 --   ran r v a m        the registers after a command that answered a, m being the marks after it
 --   write_cause        the number of a refused write: 12, 13 or 14
 --   WriteDone          the contract of write; CommandDone: of byte 0
+--   Value, value_said   a byte, or the number of a refusal, and as the code says it
 --   read_value         what the read call finds
 use Rattle.std.specs.Prelude.{ℕ, zero, suc, ◌+◌, ◌*◌, ◌<◌, ◌≡◌, Bool, true, false, ◌&&◌, ◌||◌, List, [], ◌∷◌, eqb, ltb, leb, get_or, set}
 use Rattle.base.specs.Base.{if}
-use Rattle.answer.specs.Answer.{Answer, done, clean, in_chips, in_card, counted, refused, refused_card, number, By}
+use Rattle.answer.specs.Answer.{Answer, done, clean, in_chips, in_card, counted, refused, refused_card, number, By, refusal_number}
 use Rattle.answer.specs.Cause.{cause, lowest}
 use Rattle.marks.specs.Mark.{MarkDone}
 use Rattle.marks.specs.declared.Marks.{Marks}
+use Rattle.std.specs.declared.option.Option.{Option}
+use Rattle.std.specs.declared.result.Result.{Result}
+use Rattle.std.specs.Prelude.{None, Some, Ok, Err}
+use Rattle.answer.specs.declared.Refusal.{Refusal}
+use Rattle.marks.specs.declared.MarkCall.{MarkCall}
 use Rattle.marks.specs.declared.MarkCall.TheVariants.{PlaceChip, LiftChip, PlaceCard, LiftCard}
 use Rattle.bank.specs.Calls.{GetDone, PatrolDone}
 use Rattle.registers.specs.Registers.{register_bytes, register, with_bits, without_bits}
 use Rattle.registers.specs.declared.Registers.{Registers}
-use Rattle.registers.specs.declared.Command.{Command}
-use Rattle.registers.specs.declared.Command.TheVariants.{Get, Patrol, Mark, Unknown}
-use Rattle.registers.specs.declared.Value.{Value}
-use Rattle.registers.specs.declared.Value.TheVariants.{Byte, Refused}
+use Rattle.registers.specs.declared.Command.{Command as Asked}
+use Rattle.registers.specs.declared.Command.TheVariants.{Get as AskedGet, Patrol as AskedPatrol, Mark as AskedMark}
 use Rattle.registers.specs.declared.answers.Told.{Told}
 
 -- ---- commands
+-- what a command asks of the library
+pub data Command : Type 0 where
+  Get : (k : ℕ) → Command
+  Patrol : (k : ℕ) → Command
+  Mark : (c : MarkCall) → Command
+  Unknown : Command
+
+-- as the code says it
+abbrev pub command_said : Option Asked → Command
+command_said (Some (AskedGet k)) = Get k
+command_said (Some (AskedPatrol k)) = Patrol k
+command_said (Some (AskedMark c)) = Mark c
+command_said None = Unknown
+
 abbrev pub asked_block : Registers → ℕ
 asked_block r = register r 1 + 256 * register r 2
 
@@ -125,5 +144,15 @@ abbrev pub CommandDone : Registers → ℕ → List ℕ → List ℕ → List �
 CommandDone r v bank out w ans r' bank' out' w' = WriteDone r 0 v bank out w ans r' bank' out' w'
 
 -- ---- a read
+-- the byte, or the number of the refusal
+pub data Value : Type 0 where
+  Byte : (b : ℕ) → Value
+  Refused : (number : ℕ) → Value
+
+-- as the code says it
+abbrev pub value_said : Result ℕ Refusal → Value
+value_said (Ok b) = Byte b
+value_said (Err r) = Refused (refusal_number r)
+
 unfoldable pub read_value : Registers → ℕ → Value
 read_value r a = if (ltb 11 a) (Refused 12) (Byte (get_or (register_bytes r) a 0))

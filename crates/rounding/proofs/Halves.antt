@@ -6,15 +6,15 @@
 --   TwoNearest, two_nearest   where two whole numbers are nearest, they are neighbours, and each is a half away
 --   rounds_exist, rounds_agree   there is a number that `Rounds` means, and one only
 --   rounds_decided, two_at_halves, as_it_was, only_odd_halves
-use mathlib.Core.Path.{◌≡◌, refl, subst}
+use mathlib.Core.Path.{◌≡◌, refl}
 use mathlib.Core.Logic.{◌≢◌, ◌↔◌, ◌⊎◌, inl, inr, ⊎_elim}
 use Prim.Native.Nat.{ℕ, ◌+◌, ◌*◌, ◌-◌, ◌/◌, ◌%◌, ◌≤◌, ◌<◌}
 use native.Mathlib.Nat.{mul-le-mul_right, eq-zero-or-pos, le-div_iff_mul-le, div-lt_iff_lt-mul}
 use native.Mathlib.Omega.{arith}
 use lib.Dec.{eqb}
 use borrow.Author.Tests.{eq-eqb, ne_eqb}
+use Rattle.std.proofs.lemmas.Bool.{cases_eq, cases_lt}
 use Rattle.base.specs.Base.{if}
-use Rattle.base.proofs.Tests.{same, lt_or_le}
 use Rattle.rounding.specs.Rounding.{off, Rounds}
 use Rattle.rounding.specs.Halves.{RoundsDecided, TwoAtHalves, HalvesUp, AsItWas, OnlyOddHalves}
 use Rattle.rounding.proofs.Rounding.{scaled, scaled_0, near, of_nothing, lower, upper, middle}
@@ -42,7 +42,7 @@ module _ (a n : ℕ) (h : 1 ≤ n) where
       (eq-zero-or-pos q)
 
   two_nearest : (p q : ℕ) → Nearest a n p → Nearest a n q → p < q → TwoNearest a n p q
-  two_nearest p q f g l = ⊎_elim (λ m. absurd (far m)) (λ m. close (omega arith)) (lt_or_le (p + 1) q)
+  two_nearest p q f g l = ⊎_elim (λ m. absurd (far m)) (λ m. close (omega arith)) (cases_lt (p + 1) q)
     where
       far : p + 1 < q → ⊥
       far m = omega (arith, mul-le-mul_right {m = p + 2} {n = q} n (omega arith), f q, g p, half_at_most p f)
@@ -53,7 +53,7 @@ module _ (a n : ℕ) (h : 1 ≤ n) where
           record { next = e; under = omega (arith, f q, g p); first = omega (arith, f q, g p); second = omega (arith, f q, g p) }
 
   either_way : (p q : ℕ) → Nearest a n p → Nearest a n q → p ≢ q → TwoNearest a n p q ⊎ TwoNearest a n q p
-  either_way p q f g ne = ⊎_elim (λ l. inl (two_nearest p q f g l)) (λ l. inr (two_nearest q p g f (omega arith))) (lt_or_le p q)
+  either_way p q f g ne = ⊎_elim (λ l. inl (two_nearest p q f g l)) (λ l. inr (two_nearest q p g f (omega arith))) (cases_lt p q)
 
   -- two neighbours are not both even
   never_two : (p q : ℕ) → Rounds a n p → Rounds a n q → TwoNearest a n p q → ⊥
@@ -63,8 +63,8 @@ module _ (a n : ℕ) (h : 1 ≤ n) where
   some =
       ⊎_elim
       (λ l. (a / n, lower a n _ h refl l))
-      (λ l. ⊎_elim (λ m. (a / n + 1, upper a n _ h refl m)) (λ m. (a / n + a / n % 2, even (omega arith))) (lt_or_le n (2 * (a % n))))
-      (lt_or_le (2 * (a % n)) n)
+      (λ l. ⊎_elim (λ m. (a / n + 1, upper a n _ h refl m)) (λ m. (a / n + a / n % 2, even (omega arith))) (cases_lt n (2 * (a % n))))
+      (cases_lt (2 * (a % n)) n)
     where
       even : 2 * (a % n) ≡ n → Rounds a n (a / n + a / n % 2)
       even e = middle a n _ h (omega arith) (omega arith) (omega arith) e
@@ -77,7 +77,7 @@ pub rounds_agree : (a n p q : ℕ) → Rounds a n p → Rounds a n q → p ≡ q
 rounds_agree a n p q f g =
     ⊎_elim
     (λ z. omega (arith, f.nothing z, g.nothing z))
-    (λ h. ⊎_elim (λ e. e) (λ ne. absurd (two h ne)) (same p q))
+    (λ h. ⊎_elim (λ e. e) (λ ne. absurd (two h ne)) (cases_eq p q))
     (eq-zero-or-pos n)
   where
     two : 1 ≤ n → p ≢ q → ⊥
@@ -101,14 +101,14 @@ two_at_halves a n q h f = (half, other)
         ⊎_elim
         (λ l. (q + 1, (λ z. omega arith), omega arith))
         (λ l. let z = pred_suc q n (omega arith) in (q - 1, (λ y. omega arith), omega (arith, scaled n z)))
-        (lt_or_le (q * n) a)
+        (cases_lt (q * n) a)
 
 -- a number of the old rule is at most a half away, and where it is a half away no smaller
 up_decided : (a n p q : ℕ) → HalvesUp a n p → HalvesUp a n q → p ≡ q
 up_decided a n p q f g =
     ⊎_elim
     (λ z. omega (arith, f.nothing z, g.nothing z))
-    (λ h. ⊎_elim (λ e. e) (λ ne. absurd (⊎_elim (never p f) (never q g) (either_way a n h p q f.nearest g.nearest ne))) (same p q))
+    (λ h. ⊎_elim (λ e. e) (λ ne. absurd (⊎_elim (never p f) (never q g) (either_way a n h p q f.nearest g.nearest ne))) (cases_eq p q))
     (eq-zero-or-pos n)
   where
     never : {r : ℕ} (p : ℕ) → HalvesUp a n p → TwoNearest a n p r → ⊥
@@ -148,7 +148,7 @@ only_odd_halves a n p q f g = ⊎_elim alike apart (eq-zero-or-pos n)
     odd t = (t.second, omega (arith, t.next, g.even t.first))
 
     differ : (2 * off a n p ≡ n) × (p % 2 ≡ 1) → p ≡ q → ⊥
-    differ w e = omega (arith, w.1, g.even (subst (λ (x : ℕ). 2 * off a n x ≡ n) e w.0))
+    differ w e = omega (arith, w.1, g.even (rw e at w.0))
 
     apart : 1 ≤ n → (p ≢ q ↔ ((2 * off a n p ≡ n) × (p % 2 ≡ 1))) × (p ≢ q → p ≡ q + 1)
     apart h = ((λ ne. odd (above h ne), λ w e. differ w e), λ ne. (above h ne).next)

@@ -8,7 +8,7 @@ use mathlib.Core.Logic.{⊎_elim, ◌↔◌}
 use Prim.Native.Nat.{ℕ, ◌+◌, ◌*◌, ◌-◌, ◌/◌, ◌%◌, ◌≤◌, ◌<◌}
 use native.Mathlib.Nat.{mul-le-mul_right, mul-mod_right, eq-zero-or-pos}
 use native.Mathlib.Omega.{arith}
-use Rattle.base.proofs.Tests.{lt_or_le}
+use Rattle.std.proofs.lemmas.Bool.{cases_lt}
 use Rattle.rounding.specs.Rounding.{off, Rounds}
 use Rattle.rounding.specs.PerThousand.{PerThousand, Worked, Sixteenths, AtMostAll, AllOrNone, AddUp}
 use Rattle.rounding.proofs.Rounding.{scaled, within}
@@ -42,7 +42,7 @@ sixteenths n = (divides, some_half)
         ap (λ (x : ℕ). x % 16) f ∙ mul-mod_right 16 w.0
 
     divides : (s q : ℕ) → 2 * off (1000 * s) n q ≡ n → n % 16 ≡ 0
-    divides s q e = ⊎_elim above below (lt_or_le (1000 * s) (q * n))
+    divides s q e = ⊎_elim above below (cases_lt (1000 * s) (q * n))
       where
         above : 1000 * s < q * n → n % 16 ≡ 0
         above l =
@@ -65,21 +65,21 @@ pub at_most_all : AtMostAll
 at_most_all s n q l f =
     ⊎_elim
     (λ z. omega (arith, f.nothing z))
-    (λ h. ⊎_elim (λ g. absurd (over h g)) (λ g. g) (lt_or_le 1000 q))
+    (λ h. ⊎_elim (λ g. absurd (over h g)) (λ g. g) (cases_lt 1000 q))
     (eq-zero-or-pos n)
   where
     over : 1 ≤ n → 1000 < q → ⊥
     over h g = omega (arith, mul-le-mul_right {m = 1001} {n = q} n g, half_at_most (1000 * s) n h q f.nearest)
 
 pub all_or_none : AllOrNone
-all_or_none n h = (only, λ g. ⊎_elim (λ l. l) (λ l. absurd (all_but_one l g)) (lt_or_le n 2000))
+all_or_none n h = (only, λ g. ⊎_elim (λ l. l) (λ l. absurd (all_but_one l g)) (cases_lt n 2000))
   where
     only : n < 2000 → (s q : ℕ) → s ≤ n → PerThousand s n q → (q ≡ 1000 ↔ s ≡ n) × (q ≡ 0 ↔ s ≡ 0)
     only l s q m f =
         let a = half_at_most (1000 * s) n h q f.nearest in
         let b = at_most_all s n q m f in
         let all : s ≡ n → q ≡ 1000 = λ e. ⊎_elim
-        (λ g. absurd (omega (arith, mul-le-mul_right {m = q + 1} {n = 1000} n (omega arith)))) (λ g. omega arith) (lt_or_le q 1000) in
+        (λ g. absurd (omega (arith, mul-le-mul_right {m = q + 1} {n = 1000} n (omega arith)))) (λ g. omega arith) (cases_lt q 1000) in
         let none : s ≡ 0 → q ≡ 0 = λ e. ⊎_elim (λ z. z) (λ g. absurd (omega (arith, mul-le-mul_right {m = 1} {n = q} n g))) (eq-zero-or-pos q) in
         ((λ e. omega (arith, scaled n e), all), (λ e. omega (arith, scaled n e), none))
 

@@ -2,7 +2,6 @@
 --
 --   scaled       equal numbers, times n; scaled_0: a number, times 0
 --   around       a / n is the whole number below it and a rest of less than 1
---   step_up      where there is a rest, the whole number above a / n is at most a
 --   near         a number that is at most a half away is a nearest
 --   of_nothing   0, where n is 0
 --   within       a number that is at most a half away, and even where it is a half away
@@ -10,9 +9,9 @@
 use mathlib.Core.Path.{◌≡◌, ap, ◌∙◌}
 use mathlib.Core.Logic.{⊎_elim}
 use Prim.Native.Nat.{ℕ, ◌+◌, ◌*◌, ◌/◌, ◌%◌, ◌≤◌, ◌<◌}
-use native.Mathlib.Nat.{mul-zero, mul-le-mul_left, mul-le-mul_right, div-add-mod', mod-lt}
+use native.Mathlib.Nat.{mul-zero, mul-le-mul_right, div-add-mod', mod-lt}
 use native.Mathlib.Omega.{arith}
-use Rattle.base.proofs.Tests.{lt_or_le}
+use Rattle.std.proofs.lemmas.Bool.{cases_lt}
 use Rattle.rounding.specs.Rounding.{off, Rounds}
 
 pub scaled : (n : ℕ) {p q : ℕ} → p ≡ q → p * n ≡ q * n
@@ -24,12 +23,9 @@ scaled_0 p e = ap (λ (x : ℕ). p * x) e ∙ mul-zero p
 pub around : (a n : ℕ) → 1 ≤ n → (a / n * n + a % n ≡ a) × (a % n < n)
 around a n h = (div-add-mod' a n, mod-lt a (omega arith))
 
-pub step_up : (a n : ℕ) → 1 ≤ n → 1 ≤ a % n → a / n + 1 ≤ a
-step_up a n h l = let d = around a n h in omega (arith, d.0, d.1, mul-le-mul_left {m = 1} {n = n} (a / n) h)
-
 -- a number below q is off by as much at least, and so is one above it
 pub near : (a n q : ℕ) → 2 * off a n q ≤ n → (p : ℕ) → off a n q ≤ off a n p
-near a n q h p = ⊎_elim below (λ l. ⊎_elim above (λ g. omega (arith, same l g)) (lt_or_le q p)) (lt_or_le p q)
+near a n q h p = ⊎_elim below (λ l. ⊎_elim above (λ g. omega (arith, same l g)) (cases_lt q p)) (cases_lt p q)
   where
     below : p < q → off a n q ≤ off a n p
     below l = omega (arith, mul-le-mul_right {m = p + 1} {n = q} n (omega arith))

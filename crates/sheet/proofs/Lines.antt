@@ -48,7 +48,7 @@ unfolding decimal
 decimal_plain n = digits_plain (suc n) n
 
 line_then : (w t : List ℕ) → Plain w → lines_of (line (w ∷ []) ++ t) ≡ w ∷ lines_of t
-line_then w t p = ap lines_of (append_assoc w (ascii "\n") t) ∙ after_line w t p
+line_then w t p = rw append_assoc (after_line w t p)
 
 -- ---- the lines of numbers
 decimals : (ℕ → ℕ) → ℕ → ℕ → List (List ℕ)
@@ -64,18 +64,17 @@ number_lines_of : (f : ℕ → ℕ) (s n : ℕ) (t : List ℕ) → lines_of (num
 unfolding decimals number_lines
 number_lines_of f s zero t = refl
 number_lines_of f s (suc n) t =
-    ap lines_of (append_assoc (number_lines f s n) (line (decimal (f (s + n)) ∷ [])) t)
-    ∙ number_lines_of f s n (line (decimal (f (s + n)) ∷ []) ++ t)
-    ∙ ap (λ (l : List (List ℕ)). decimals f s n ++ l) (line_then (decimal (f (s + n))) t (decimal_plain (f (s + n))))
-    ∙ sym (append_assoc (decimals f s n) (decimal (f (s + n)) ∷ []) (lines_of t))
+    let last : List ℕ = decimal (f (s + n)) in
+    rw
+    (append_assoc (number_lines f s n) (line (last ∷ [])) t, number_lines_of f s n (line (last ∷ []) ++ t), line_then last t (decimal_plain _), append_assoc)
+    refl
 
 numbers_text : (f : ℕ → ℕ) (s n : ℕ) (r : List (List ℕ)) → text_of (decimals f s n ++ r) ≡ number_lines f s n ++ text_of r
 unfolding decimals number_lines
 numbers_text f s zero r = refl
 numbers_text f s (suc n) r =
     let last : List ℕ = decimal (f (s + n)) in
-    ap text_of (append_assoc (decimals f s n) (last ∷ []) r) ∙ numbers_text f s n (last ∷ r)
-    ∙ sym (append_assoc (number_lines f s n) (line (last ∷ [])) (text_of r))
+    rw (append_assoc (decimals f s n) (last ∷ []) r, numbers_text f s n (last ∷ r), append_assoc (number_lines f s n) (line (last ∷ [])) (text_of r)) refl
 
 in_numbers : (f : ℕ → ℕ) (s n k : ℕ) (r : List (List ℕ)) → k < n → get_or (decimals f s n ++ r) k [] ≡ decimal (f (s + k))
 unfolding decimals
@@ -90,12 +89,10 @@ in_numbers f s (suc n) k r h =
 module _ (w : List ℕ) (f : ℕ → ℕ) (s n : ℕ) where
   section_lines : (t : List ℕ) → Plain w → lines_of ((line (w ∷ []) ++ number_lines f s n) ++ t) ≡ w ∷ (decimals f s n ++ lines_of t)
   section_lines t p =
-      ap lines_of (append_assoc (line (w ∷ [])) (number_lines f s n) t)
-      ∙ line_then w (number_lines f s n ++ t) p ∙ ap (λ (l : List (List ℕ)). w ∷ l) (number_lines_of f s n t)
+      rw (append_assoc (line (w ∷ [])) (number_lines f s n) t, line_then w (number_lines f s n ++ t) p, number_lines_of f s n t) refl
 
   section_text : (r : List (List ℕ)) → text_of (w ∷ (decimals f s n ++ r)) ≡ (line (w ∷ []) ++ number_lines f s n) ++ text_of r
-  section_text r =
-      ap (λ (t : List ℕ). line (w ∷ []) ++ t) (numbers_text f s n r) ∙ sym (append_assoc (line (w ∷ [])) (number_lines f s n) (text_of r))
+  section_text r = rw (numbers_text f s n r, append_assoc (line (w ∷ [])) (number_lines f s n) (text_of r)) refl
 
   below_heading : (k : ℕ) (r : List (List ℕ)) → k < n → get_or (w ∷ (decimals f s n ++ r)) (suc k) [] ≡ decimal (f (s + k))
   below_heading k r h = in_numbers f s n k r h

@@ -1,7 +1,7 @@
 -- What `say` promises, by the length of the output.
 --
 --   too_small      nothing is written
---   all_said       the three sections, one behind the other, are the text, and it stands at the front
+--   all_said       the text, put at the front
 --   within         what is said to be the text's length is within the output
 --   written        that many bytes of an output with room are the text
 use mathlib.Core.Logic.{⊎_elim}
@@ -11,32 +11,23 @@ use Prim.Native.Nat.{ℕ, ◌≤◌, ◌<◌}
 use native.Mathlib.Omega.{arith}
 use lib.ListN.{length, take, drop, length-append}
 use lib.Seq.{take_at}
-use Rattle.base.proofs.Tests.{lt_or_le}
+use Rattle.std.proofs.lemmas.Bool.{cases_lt}
 use Rattle.text.specs.Put.{Put}
-use Rattle.text.proofs.Pieces.{joined, whole}
-use Rattle.field.specs.Field.{power}
-use Rattle.code.specs.Labels.{label}
-use Rattle.sheet.specs.Sheet.{log, section, sheet, SheetDone}
+use Rattle.text.proofs.Pieces.{whole}
+use Rattle.sheet.specs.Sheet.{sheet, SheetDone}
 use Rattle.sheet.proofs.Text.{long}
 
 pub too_small : (out : List ℕ) → length out < 1992 → SheetDone out 0 out
 too_small out h = record { small = λ l. (refl, refl); said = λ l. absurd (omega (arith, h, l, long)) }
 
-in_order : (out o₁ o₂ out' : List ℕ) (n₁ n₂ n : ℕ) → Put (section "powers" (power 2) 0 255) out 0 n₁ o₁
-    → Put (section "logs" log 1 255) o₁ n₁ n₂ o₂ → Put (section "labels" label 0 45) o₂ n₂ n out' → Put sheet out 0 n out'
-unfolding sheet
-in_order out o₁ o₂ out' n₁ n₂ n p q r = joined p (joined q r)
-
-pub all_said : (out o₁ o₂ out' : List ℕ) (n₁ n₂ n : ℕ) → 1992 ≤ length out → Put (section "powers" (power 2) 0 255) out 0 n₁ o₁
-    → Put (section "logs" log 1 255) o₁ n₁ n₂ o₂ → Put (section "labels" label 0 45) o₂ n₂ n out' → SheetDone out n out'
-all_said out o₁ o₂ out' n₁ n₂ n h p q r =
-    record { small = λ l. absurd (omega (arith, h, l, long)); said = λ l. whole (in_order out o₁ o₂ out' n₁ n₂ n p q r) l }
+pub all_said : (out : List ℕ) (n : ℕ) (out' : List ℕ) → 1992 ≤ length out → Put sheet out 0 n out' → SheetDone out n out'
+all_said out n out' h p = record { small = λ l. absurd (omega (arith, h, l, long)); said = λ l. whole p l }
 
 pub within : (out : List ℕ) (n : ℕ) (out' : List ℕ) → SheetDone out n out' → n ≤ length out'
 within out n out' w = ⊎_elim
     (λ h. omega (arith, (w.small h).0))
     (λ h. let s = w.said h in rw (s.1, length-append) (omega (arith, s.0)))
-    (lt_or_le (length out) (length sheet))
+    (cases_lt (length out) (length sheet))
 
 pub written : (out : List ℕ) (n : ℕ) (out' : List ℕ) → 1992 ≤ length out → SheetDone out n out' → take n out' ≡ sheet
 written out n out' h w =

@@ -1,5 +1,4 @@
 pub mod Sheet
-pub mod Parts
 pub mod Lines
 pub mod Undo
 pub mod ByTables

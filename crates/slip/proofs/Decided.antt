@@ -10,19 +10,20 @@ use mathlib.Core.List.{List, [], ◌∷◌, ◌++◌, append_assoc, append-nil}
 use native.Mathlib.Omega.{arith}
 use lib.ListN.{length, get_or, take, drop, length-append, length-take, length-drop, take-append-drop}
 use lib.Seq.{take-length, take-take, split_at, get_or-take, get_or-drop}
-use Rattle.base.proofs.Tests.{lt_or_le}
+use Rattle.std.proofs.lemmas.Bool.{cases_lt}
 use Rattle.answer.specs.Answer.{Answer, done, clean, in_chips, in_card, counted, refused, refused_card}
 use Rattle.reading.specs.Reading.{reading_answer}
 use Rattle.reading.specs.declared.Kind.TheVariants.{Clean, Chips, OneCard}
-use Rattle.reading.specs.declared.Reading.{Reading}
-use Rattle.reading.specs.declared.Reading.TheVariants.{Corrected, Several, Refused as RefusedWith}
+use Rattle.reading.specs.Reading.{Reading}
+use Rattle.std.specs.Prelude.{Ok, Err}
+use Rattle.reading.specs.declared.Fault.TheVariants.{Several, Refused as RefusedWith}
 use Rattle.slip.specs.Slip.{InRanges, HasSlip, slip}
 use Rattle.slip.specs.Calls.{from_to, WriteSlipDone, Follows, CutOff, Against, ReadSlipDone}
 use Rattle.slip.specs.Plain.{OneOutcome, WriteDecided, ReadDecided}
 use Rattle.slip.specs.Limits.{answer_told, block_told}
-use Rattle.slip.specs.declared.Wrote.TheVariants.{Next, Refused}
-use Rattle.slip.specs.declared.Found.{Found}
-use Rattle.slip.specs.declared.Found.TheVariants.{Slip, Refused as RefusedAt}
+use Rattle.slip.specs.Wrote.{Next, Refused}
+use Rattle.slip.specs.Found.{Found}
+use Rattle.slip.specs.Found.{Slip, Refused as RefusedAt}
 use Rattle.slip.proofs.Shape.{block_back, answer_back}
 
 -- ---- one outcome
@@ -32,21 +33,21 @@ one_outcome k k' a a' h h' l l' e =
 
 -- the Reading that stands for a reading's answer; what is no reading's is not asked for
 unfoldable pub reading_of : Answer → Reading
-reading_of clean = Corrected Clean
-reading_of (in_chips n) = Corrected (Chips n)
-reading_of (in_card j n) = Corrected (OneCard j n)
-reading_of (refused n) = RefusedWith n
-reading_of (refused_card n j) = Several j
-reading_of done = RefusedWith 0
-reading_of (counted v w x y z) = RefusedWith 0
+reading_of clean = Ok Clean
+reading_of (in_chips n) = Ok (Chips n)
+reading_of (in_card j n) = Ok (OneCard j n)
+reading_of (refused n) = Err (RefusedWith n)
+reading_of (refused_card n j) = Err (Several j)
+reading_of done = Err (RefusedWith 0)
+reading_of (counted v w x y z) = Err (RefusedWith 0)
 
 reading_back : (r : Reading) → reading_of (reading_answer r) ≡ r
 unfolding reading_of
-reading_back (Corrected Clean) = refl
-reading_back (Corrected (Chips n)) = refl
-reading_back (Corrected (OneCard j n)) = refl
-reading_back (Several j) = refl
-reading_back (RefusedWith n) = refl
+reading_back (Ok Clean) = refl
+reading_back (Ok (Chips n)) = refl
+reading_back (Ok (OneCard j n)) = refl
+reading_back (Err (Several j)) = refl
+reading_back (Err (RefusedWith n)) = refl
 
 -- a Reading by its answer
 pub reading_one : (r r' : Reading) → reading_answer r ≡ reading_answer r' → r ≡ r'
@@ -121,7 +122,7 @@ module _ (s : List ℕ) (i : ℕ) where
 
   -- a slip, and a cause of 16 or of 15
   not_both : (k : ℕ) (a : Answer) (n : ℕ) → HasSlip k a → n ≡ i + length (slip k a) → from_to s i n ≡ slip k a → (p : ℕ) → Against s i p → ⊥
-  not_both k a n h e b p g = go (lt_or_le (p - i) (n - i))
+  not_both k a n h e b p g = go (cases_lt (p - i) (n - i))
     where
       go : (p - i < n - i) ⊎ (n - i ≤ p - i) → ⊥
       go (inl l) = no_further p g (n - i) l [] k a h (sym b ∙ sym (append-nil _))
@@ -145,7 +146,7 @@ module _ (s : List ℕ) (i : ℕ) where
       no_further p g (q - i) (omega (arith, l, g.from)) (g'.so_far.0 ∷ f.rest) f.block f.answer f.has f.begins
 
   one_cause : (p q : ℕ) → Against s i p → Against s i q → p ≡ q
-  one_cause p q g g' = go (lt_or_le p q) (lt_or_le q p)
+  one_cause p q g g' = go (cases_lt p q) (cases_lt q p)
     where
       go : (p < q) ⊎ (q ≤ p) → (q < p) ⊎ (p ≤ q) → p ≡ q
       go (inl l) r = absurd (earlier p q g g' l)

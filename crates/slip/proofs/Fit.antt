@@ -13,10 +13,10 @@ use Rattle.reading.specs.Reading.{reading_answer}
 use Rattle.slip.specs.Slip.{HasSlip, slip}
 use Rattle.slip.specs.Calls.{WriteSlipDone, Against, ReadSlipDone, from_to}
 use Rattle.slip.specs.Fit.{WroteFits, FoundFits}
-use Rattle.slip.specs.declared.Wrote.{Wrote}
-use Rattle.slip.specs.declared.Wrote.TheVariants.{Next, Refused}
-use Rattle.slip.specs.declared.Found.{Found}
-use Rattle.slip.specs.declared.Found.TheVariants.{Slip, Refused as RefusedAt}
+use Rattle.slip.specs.Wrote.{Wrote}
+use Rattle.slip.specs.Wrote.{Next, Refused}
+use Rattle.slip.specs.Found.{Found}
+use Rattle.slip.specs.Found.{Slip, Refused as RefusedAt}
 
 pub slip_length : (k : ℕ) (a : Answer) → HasSlip k a → (4 ≤ length (slip k a)) × (length (slip k a) ≤ 6)
 unfolding slip

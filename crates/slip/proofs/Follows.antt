@@ -1,7 +1,7 @@
 -- What may stand behind the beginning of a slip.
 --
 --   Row l             a line of the table: at most five bytes, each with its limits, which some byte meets
---   table             the limits behind any number are such a line
+--   every_row         what holds of each line of it; table: the limits behind any number are such a line
 --   goes_on           bytes within their limits behind a map go on to a slip; more_follows: and with which byte
 --   first_follows     a slip may begin with any map; follows_first: and with nothing else
 --   behind_follows    behind a map and bytes within their limits, a byte that is too; follows_behind: and nothing else
@@ -19,8 +19,7 @@ use Rattle.base.proofs.Tests.{both, both_left, both_right, is_true}
 use Rattle.answer.specs.Answer.{Answer}
 use Rattle.slip.specs.Slip.{HasSlip, slip}
 use Rattle.slip.specs.Calls.{Follows}
-use Rattle.slip.specs.Limits.{limits_of, Within, answer_told, block_told}
-use Rattle.slip.specs.declared.limits.Limits.{Limits}
+use Rattle.slip.specs.Limits.{limits_of, Limits, Within, answer_told, block_told}
 use Rattle.slip.proofs.Within.{within_front, within_test, within_of, filled}
 use Rattle.slip.proofs.Shape.{map_of, after_map, slip_is, Shaped, shaped, told}
 
@@ -45,15 +44,20 @@ row_of l t =
       self = within_of _ _ _ (both_right (eqb (length l.most) 5) _ v);
     }
 
-passes : (t : Bool) (x y : Limits) → T (row_test x) → T (row_test y) → T (row_test (if t x y))
-passes true x y p q = p
-passes false x y p q = q
+passes : (P : Limits → Type 0) (t : Bool) (x y : Limits) → P x → P y → P (if t x y)
+passes P true x y p q = p
+passes P false x y p q = q
+
+-- what holds of each line, and of the last, holds of any
+pub every_row : (P : Limits → Type 0) (m : ℕ) → P (limits_of 3) → P (limits_of 11) → P (limits_of 15) → P (limits_of 17) → P (limits_of 21)
+    → P (limits_of 0) → P (limits_of m)
+unfolding limits_of
+every_row P m a b c d e f =
+    passes P (eqb m 3) _ _ a (passes P (eqb m 11) _ _ b (passes P (eqb m 15) _ _ c (passes P (eqb m 17) _ _ d (passes P (eqb m 21) _ _ e f))))
 
 pub table : (m : ℕ) → Row (limits_of m)
 unfolding limits_of row_test within_test
-table m =
-    row_of (limits_of m)
-    (passes (eqb m 3) _ _ tt (passes (eqb m 11) _ _ tt (passes (eqb m 15) _ _ tt (passes (eqb m 17) _ _ tt (passes (eqb m 21) _ _ tt tt)))))
+table m = row_of (limits_of m) (every_row (λ l. T (row_test l)) m tt tt tt tt tt tt)
 
 -- bytes within their limits behind a map go on to a slip, whatever they are
 goes_on : (m : ℕ) (bs : List ℕ) → (limits_of m).size ≢ 0 → length bs ≤ (limits_of m).size → Within (limits_of m).least (limits_of m).most bs

@@ -1,33 +1,89 @@
 -- What the reader has seen of a slip, byte by byte, and what it says of it.
 --
 --   Judged s i j p    the map at i and j bytes behind it are within their limits; p is the offset after them
---   judged_map, judged_more   the map alone; one byte more
+--   judged_more       one byte more
 --   cut_first, cut_within     the slice ends: 15
 --   bad_map, bad_byte         a map or a byte against the rules: 16
+--   limits_back       the table's pairs are the limits of the map; none_said: none where no byte stands behind it
+--   in_use b          the pairs that the code gives
+--   said_fits, said_size, said_some, said_least, said_most   they are the limits of the map
 --   handed            all of it is there, as its map says
 --   read_slip         all of it: what its bytes tell
-use Prim.Native.Nat.{ℕ, suc, ◌+◌, ◌-◌, ◌≤◌, ◌<◌}
+use Prim.Native.Nat.{ℕ, zero, suc, ◌+◌, ◌-◌, ◌≤◌, ◌<◌}
 use mathlib.Core.Path.{◌≡◌, refl, sym, ap, ap₂, ◌∙◌, subst}
 use mathlib.Core.Logic.{◌≢◌, inl, inr}
-use mathlib.Core.List.{List, [], ◌∷◌, ◌++◌}
+use mathlib.Core.Bool.{false≢true}
+use Rattle.std.specs.Prelude.{Some, None, is_some}
+use mathlib.Core.List.{List, [], ◌∷◌, ◌++◌, map}
 use native.Mathlib.Omega.{arith}
 use native.Mathlib.Nat.{sub_self}
 use lib.ListN.{length, get_or, take, drop, length-take, length-drop, drop_of_length-le}
+use Rattle.std.proofs.lemmas.List.{get_or-map, get_or-take, length-map}
 use lib.Seq.{take_all, take-suc, drop-cons, get_or-drop}
 use Rattle.reading.specs.Reading.{reading_answer}
-use Rattle.reading.specs.declared.Reading.{Reading}
+use Rattle.reading.specs.Reading.{Reading}
 use Rattle.slip.specs.Slip.{HasSlip, slip}
 use Rattle.slip.specs.Calls.{from_to, Follows, Against, ReadSlipDone}
-use Rattle.slip.specs.Limits.{limits_of, Within, answer_told, block_told}
-use Rattle.slip.specs.declared.Found.TheVariants.{Slip, Refused as RefusedAt}
+use Rattle.slip.specs.Limits.{Limits, limits, limits_of, limits_said, allowed, allowed_of, Within, answer_told, block_told}
+use Rattle.slip.specs.declared.limits.Allowed.{Allowed}
+use Rattle.slip.specs.Found.{Slip, Refused as RefusedAt}
 use Rattle.slip.proofs.Within.{within_more, within_last}
 use Rattle.slip.proofs.Shape.{Shaped, three, Tells, told}
-use Rattle.slip.proofs.Follows.{Row, table, first_follows, follows_first, more_follows, follows_behind}
+use Rattle.slip.proofs.Follows.{Row, table, every_row, first_follows, follows_first, more_follows, follows_behind}
 
 -- a slip may begin: with 3, say
 may_begin : Follows [] 3
 unfolding limits_of
 may_begin = first_follows 3 (λ e. omega (arith, e))
+
+-- ---- the limits, as the code gives them
+pub limits_back : (m : ℕ) → limits_said (allowed_of m) ≡ limits_of m
+unfolding limits_of
+limits_back m = every_row (λ l. limits_said (allowed l) ≡ l) m refl refl refl refl refl refl
+
+pub none_said : (m : ℕ) → None ≡ allowed_of m → (limits_of m).size ≡ 0
+none_said m e = ap (λ (l : Limits). l.size) (sym (ap limits_said e ∙ limits_back m))
+
+some_said : (b : Allowed) (n : ℕ) (lo hi : List ℕ) → Some b ≡ allowed (limits n lo hi) → n ≢ 0
+some_said b zero lo hi e = absurd (false≢true (sym (ap is_some e)))
+some_said b (suc n) lo hi e = λ z. omega (arith, z)
+
+-- those of the map m
+abbrev pub Said : Allowed → ℕ → Type 0
+Said b m = Some b ≡ allowed_of m
+
+-- the pairs in use
+abbrev pub in_use : Allowed → List (ℕ × ℕ)
+in_use b = take b.size b.each
+
+module _ (b : Allowed) (m : ℕ) (e : Said b m) where
+  same : limits_said (Some b) ≡ limits_of m
+  same = ap limits_said e ∙ limits_back m
+
+  five : length b.each ≡ 5
+  five = sym (length-map b.each (λ p. p.0)) ∙ ap (λ (x : Limits). length x.least) same ∙ (table m).lows
+
+  -- there are as many
+  pub said_fits : b.size ≤ length b.each
+  said_fits = omega (arith, ap (λ (x : Limits). x.size) same, five, (table m).most)
+
+  pub said_size : length (in_use b) ≡ (limits_of m).size
+  said_size = omega (arith, length-take b.size b.each, said_fits, ap (λ (x : Limits). x.size) same)
+
+  pub said_some : (limits_of m).size ≢ 0
+  said_some = some_said b (limits_of m).size (limits_of m).least (limits_of m).most e
+
+  -- one side of the pair at j
+  side : (f : ℕ × ℕ → ℕ) (j : ℕ) → j < length (in_use b) → get_or (map f b.each) j 0 ≡ f (get_or (in_use b) j (0, 0))
+  side f j h =
+      let k : j < b.size = omega (arith, h, length-take b.size b.each) in
+      get_or-map f b.each j (0, 0) 0 (omega (arith, k, said_fits)) ∙ ap f (sym (get_or-take b.size b.each j (0, 0) k))
+
+  pub said_least : (j : ℕ) → j < length (in_use b) → get_or (limits_of m).least j 0 ≡ (get_or (in_use b) j (0, 0)).0
+  said_least j h = ap (λ (x : Limits). get_or x.least j 0) (sym same) ∙ side (λ p. p.0) j h
+
+  pub said_most : (j : ℕ) → j < length (in_use b) → get_or (limits_of m).most j 0 ≡ (get_or (in_use b) j (0, 0)).1
+  said_most j h = ap (λ (x : Limits). get_or x.most j 0) (sym same) ∙ side (λ p. p.1) j h
 
 -- ---- no map
 pub cut_first : (s : List ℕ) (i : ℕ) → length s ≤ i → ReadSlipDone s i (RefusedAt 15 (length s)) s
@@ -70,9 +126,6 @@ module _ (s : List ℕ) (i : ℕ) (h : i < length s) where
         so_far = (3, subst (λ (l : List ℕ). Follows l 3) (sym none) may_begin);
         here = λ f. follows_first (get_or s i 0) (subst (λ (l : List ℕ). Follows l (get_or s i 0)) none f) e;
       }
-
-  pub judged_map : Judged s i 0 (i + 1)
-  judged_map = record { place = omega arith; most = omega arith; inside = omega arith; within = tt }
 
   module _ (j p : ℕ) (g : Judged s i j p) where
     seen_long : length (take j (rest s i)) ≡ j

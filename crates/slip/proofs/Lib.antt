@@ -11,3 +11,4 @@ pub mod Runs
 pub mod Readings
 pub mod Tied
 pub mod Constants
+pub mod Said

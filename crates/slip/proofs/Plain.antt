@@ -23,9 +23,9 @@ use Rattle.slip.specs.Calls.{from_to, WriteSlipDone, Follows, Against, ReadSlipD
 use Rattle.slip.specs.Limits.{limits_of}
 use Rattle.slip.specs.Plain.{SlipFigures, BitOrder, WritesNumbers, WritesChange, MapsExactly, BehindExactly, ReadsNumbers}
 use Rattle.slip.specs.Plain.{WrittenReads, ReadsWrite, Beyond, ReadsAs, ReadFigures}
-use Rattle.slip.specs.declared.Wrote.TheVariants.{Next, Refused}
-use Rattle.slip.specs.declared.Found.{Found}
-use Rattle.slip.specs.declared.Found.TheVariants.{Slip, Refused as RefusedAt}
+use Rattle.slip.specs.Wrote.{Next, Refused}
+use Rattle.slip.specs.Found.{Found}
+use Rattle.slip.specs.Found.{Slip, Refused as RefusedAt}
 use Rattle.slip.proofs.Within.{within_test, within_of}
 use Rattle.slip.proofs.Shape.{some_map, by_map}
 use Rattle.slip.proofs.Follows.{first_follows, follows_first, behind_follows, follows_behind}

@@ -10,7 +10,7 @@ use native.Mathlib.Omega.{arith}
 use lib.ListN.{length, drop, length-take, length-drop}
 use lib.Seq.{ext_get_or}
 use borrow.Author.Tests.{eqb-true, not-false}
-use Rattle.base.proofs.Tests.{lt_or_le}
+use Rattle.std.proofs.lemmas.Bool.{cases_lt}
 use Rattle.base.proofs.Tally.{tally_none}
 use Rattle.answer.specs.Answer.{done, clean, in_chips, in_card, counted, refused, refused_card}
 use Rattle.answer.proofs.Causes.{by_accepted}
@@ -27,7 +27,7 @@ use Rattle.slip.specs.Plain.{EveryReading, GetHasSlip, PatrolHasSlip}
 
 some_changed : (b x : List ℕ) → length b ≡ 45 → length x ≡ 45 → x ≢ b → 1 ≤ changes b x
 unfolding changes
-some_changed b x l m n = go (lt_or_le 0 (changes b x))
+some_changed b x l m n = go (cases_lt 0 (changes b x))
   where
     go : (0 < changes b x) ⊎ (changes b x ≤ 0) → 1 ≤ changes b x
     go (inl h) = omega (arith, h)

@@ -9,12 +9,12 @@ use lib.ListN.{length, take, drop, length-append, take-append-drop}
 use lib.Seq.{take_at, drop_at, length-take-le, drop-drop}
 use Rattle.answer.specs.Answer.{Answer}
 use Rattle.reading.specs.Reading.{reading_answer}
-use Rattle.reading.specs.declared.Reading.{Reading}
+use Rattle.reading.specs.Reading.{Reading}
 use Rattle.slip.specs.Slip.{slip}
 use Rattle.slip.specs.Calls.{from_to, WriteSlipDone, ReadSlipDone}
 use Rattle.slip.specs.Runs.{Note, run, EachHasSlip, WroteRun, ReadRun, RunBack, RunOnly, RunBytes, RunFits}
-use Rattle.slip.specs.declared.Found.{Found}
-use Rattle.slip.specs.declared.Found.TheVariants.{Slip, Refused as RefusedAt}
+use Rattle.slip.specs.Found.{Found}
+use Rattle.slip.specs.Found.{Slip, Refused as RefusedAt}
 use Rattle.slip.proofs.Decided.{reading_of, answer_of, read_decided}
 use Rattle.slip.proofs.Plain.{put_long, stands}
 

@@ -5,17 +5,16 @@
 --   shaped          every slip is so; told: and such bytes are the slip of what they tell
 --   answer_back, block_back   what the bytes of a slip tell is what it is the slip of
 --   three           behind a map there are three bytes or more
---   long_of, last_map   a slip's length by its map; the map that is none of the first four
 --   IsMap m         m is one of the five maps; maps: or nothing stands behind it; by_map: what holds of each
 use Prim.Native.Nat.{ℕ, ◌+◌, ◌*◌, ◌/◌, ◌%◌, ◌≤◌}
-use mathlib.Core.Path.{◌≡◌, refl, sym, ap, ap₂, ◌∙◌, subst}
+use mathlib.Core.Path.{◌≡◌, refl, sym, ap, ap₂, subst}
 use mathlib.Core.Logic.{◌≢◌, ◌⊎◌, inl, inr}
 use mathlib.Core.List.{List, [], ◌∷◌, ◌++◌}
 use native.Mathlib.Omega.{arith}
-use lib.ListN.{length, get_or}
+use lib.ListN.{length}
 use borrow.Author.Tests.{ne_eqb}
 use Rattle.base.specs.Base.{In}
-use Rattle.base.proofs.Tests.{same}
+use Rattle.std.proofs.lemmas.Bool.{cases_eq}
 use Rattle.answer.specs.Answer.{Answer, done, clean, in_chips, in_card, counted, refused, refused_card}
 use Rattle.slip.specs.Slip.{HasSlip, slip}
 use Rattle.slip.specs.Limits.{limits_of, Within, answer_told, block_told}
@@ -116,7 +115,7 @@ IsMap m = In m (3 ∷ 11 ∷ 15 ∷ 17 ∷ 21 ∷ [])
 
 pub maps : (m : ℕ) → IsMap m ⊎ ((limits_of m).size ≡ 0)
 unfolding limits_of
-maps m = go (same m 3) (same m 11) (same m 15) (same m 17) (same m 21)
+maps m = go (cases_eq m 3) (cases_eq m 11) (cases_eq m 15) (cases_eq m 17) (cases_eq m 21)
   where
     go : (m ≡ 3) ⊎ (m ≢ 3) → (m ≡ 11) ⊎ (m ≢ 11) → (m ≡ 15) ⊎ (m ≢ 15) → (m ≡ 17) ⊎ (m ≢ 17) → (m ≡ 21) ⊎ (m ≢ 21) → IsMap m ⊎ ((limits_of m).size ≡ 0)
     go (inl e) b c d f = inl (inl e)
@@ -153,21 +152,6 @@ number x y h f =
     let low : x ≡ (x + 256 * y) % 256 = omega arith in
     let high : y ≡ (x + 256 * y) / 256 = omega arith in
     ap₂ f low high
-
--- a slip's length, by its map; and the map, where it is none of the first four
-pub long_of : (bs : List ℕ) (m : ℕ) → length bs ≡ 1 + (limits_of (get_or bs 0 0)).size → get_or bs 0 0 ≡ m → length bs ≡ 1 + (limits_of m).size
-long_of bs m l e = l ∙ ap (λ (u : ℕ). 1 + (limits_of u).size) e
-
-pub last_map : (m : ℕ) → (limits_of m).size ≢ 0 → m ≢ 3 → m ≢ 11 → m ≢ 15 → m ≢ 17 → m ≡ 21
-last_map m some a b c d = go (some_map m some)
-  where
-    go : IsMap m → m ≡ 21
-    go (inl e) = absurd (a e)
-    go (inr (inl e)) = absurd (b e)
-    go (inr (inr (inl e))) = absurd (c e)
-    go (inr (inr (inr (inl e)))) = absurd (d e)
-    go (inr (inr (inr (inr (inl e))))) = e
-    go (inr (inr (inr (inr (inr z))))) = absurd z
 
 -- each map by itself, of the bytes behind it one by one
 of_3 : (x y z : ℕ) → x ≤ 255 → y ≤ 3 → z ≤ 0 → Tells (3 ∷ x ∷ y ∷ z ∷ [])

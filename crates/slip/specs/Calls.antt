@@ -12,10 +12,10 @@ use Rattle.std.specs.Prelude.{ℕ, ◌+◌, ◌-◌, ◌≤◌, ◌<◌, ◌≡�
 use Rattle.answer.specs.Answer.{Answer}
 use Rattle.reading.specs.Reading.{reading_answer}
 use Rattle.slip.specs.Slip.{HasSlip, slip}
-use Rattle.slip.specs.declared.Wrote.{Wrote}
-use Rattle.slip.specs.declared.Wrote.TheVariants.{Next, Refused}
-use Rattle.slip.specs.declared.Found.{Found}
-use Rattle.slip.specs.declared.Found.TheVariants.{Slip, Refused as RefusedAt}
+use Rattle.slip.specs.Wrote.{Wrote}
+use Rattle.slip.specs.Wrote.{Next, Refused}
+use Rattle.slip.specs.Found.{Found}
+use Rattle.slip.specs.Found.{Slip, Refused as RefusedAt}
 
 abbrev pub from_to : List ℕ → ℕ → ℕ → List ℕ
 from_to s i p = take (p - i) (drop i s)

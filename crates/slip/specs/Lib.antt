@@ -1,3 +1,5 @@
+pub mod Wrote
+pub mod Found
 pub mod Slip
 pub mod Calls
 pub mod Limits
@@ -5,3 +7,4 @@ pub mod Made
 pub mod Fit
 pub mod Plain
 pub mod Runs
+pub mod Said

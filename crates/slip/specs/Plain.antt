@@ -18,16 +18,16 @@ use Rattle.marks.specs.Marks.{LawfulMarks}
 use Rattle.marks.specs.declared.Marks.{Marks}
 use Rattle.reading.specs.Reading.{reading_answer, ReadsUnder}
 use Rattle.reading.specs.declared.Kind.TheVariants.{OneCard}
-use Rattle.reading.specs.declared.Reading.{Reading}
-use Rattle.reading.specs.declared.Reading.TheVariants.{Corrected}
+use Rattle.reading.specs.Reading.{Reading}
+use Rattle.std.specs.Prelude.{Ok}
 use Rattle.bank.specs.Calls.{get_cause, patrol_cause, GetDone, PatrolDone}
 use Rattle.slip.specs.Slip.{InRanges, HasSlip, fields, bits_of, slip}
 use Rattle.slip.specs.Calls.{from_to, WriteSlipDone, Follows, Against, ReadSlipDone, wrote_number, found_number}
 use Rattle.slip.specs.Limits.{limits_of, Within}
-use Rattle.slip.specs.declared.Wrote.{Wrote}
-use Rattle.slip.specs.declared.Wrote.TheVariants.{Next, Refused}
-use Rattle.slip.specs.declared.Found.{Found}
-use Rattle.slip.specs.declared.Found.TheVariants.{Slip, Refused as RefusedAt}
+use Rattle.slip.specs.Wrote.{Wrote}
+use Rattle.slip.specs.Wrote.{Next, Refused}
+use Rattle.slip.specs.Found.{Found}
+use Rattle.slip.specs.Found.{Slip, Refused as RefusedAt}
 
 -- ---- the format
 pub record SlipFigures (k j n r : ℕ) : Type 0 where
@@ -120,7 +120,7 @@ abbrev pub ReadsAs : List ℕ → ℕ → Found → Type 0
 ReadsAs s i f = (f' : Found) (s' : List ℕ) → ReadSlipDone s i f' s' → f' ≡ f
 
 pub record ReadFigures : Type 0 where
-  pub whole : ReadsAs (15 ∷ 255 ∷ 3 ∷ 2 ∷ 4 ∷ 11 ∷ []) 0 (Slip 1023 (Corrected (OneCard 4 11)) 6)
+  pub whole : ReadsAs (15 ∷ 255 ∷ 3 ∷ 2 ∷ 4 ∷ 11 ∷ []) 0 (Slip 1023 (Ok (OneCard 4 11)) 6)
   pub empty : ReadsAs [] 0 (RefusedAt 15 0)
   -- no such map
   pub map : ReadsAs (7 ∷ []) 0 (RefusedAt 16 0)

@@ -9,11 +9,11 @@
 use Rattle.std.specs.Prelude.{ℕ, ◌+◌, ◌≤◌, ◌≡◌, List, [], ◌∷◌, ◌++◌, length, take, drop}
 use Rattle.answer.specs.Answer.{Answer}
 use Rattle.reading.specs.Reading.{reading_answer}
-use Rattle.reading.specs.declared.Reading.{Reading}
+use Rattle.reading.specs.Reading.{Reading}
 use Rattle.slip.specs.Slip.{HasSlip, slip}
 use Rattle.slip.specs.Calls.{WriteSlipDone, ReadSlipDone}
-use Rattle.slip.specs.declared.Wrote.TheVariants.{Next}
-use Rattle.slip.specs.declared.Found.TheVariants.{Slip}
+use Rattle.slip.specs.Wrote.{Next}
+use Rattle.slip.specs.Found.{Slip}
 
 pub record Note : Type 0 where
   pub block : ℕ

@@ -6,27 +6,27 @@ mod make;
 
 ghost use Rattle.std.specs.Prelude.{◌≡◌, ◌≢◌, ◌++◌, ◌+◌, ◌*◌, ◌≤◌, length, get_or, take, drop};
 ghost use Rattle.reading.specs.Reading.{reading_answer};
+ghost use Rattle.slip.specs.Wrote.{wrote_said};
+ghost use Rattle.slip.specs.Found.{found_said};
 ghost use Rattle.slip.specs.Calls.{WriteSlipDone, ReadSlipDone};
 ghost use Rattle.slip.specs.Limits.{limits_of, answer_told};
 
-use reading::{Kind, Reading};
+use answer::Refusal;
+use reading::{Fault, Kind, Reading};
 
-// What the writer says.
+// A slip that was read: the block number, its reading, and the offset after the slip.
 #[derive(Clone, Copy)]
-pub enum Wrote {
-    // The offset after the slip.
-    Next(usize),
-    // The number of the cause.
-    Refused(u8),
+pub struct SlipRead {
+    pub block: usize,
+    pub reading: Reading,
+    pub next: usize,
 }
 
-// What the reader finds.
+// Why none was read, and where: the offset of the cause.
 #[derive(Clone, Copy)]
-pub enum Found {
-    // The block number, its reading, and the offset after the slip.
-    Slip(usize, Reading, usize),
-    // The number of the cause, and its offset.
-    Refused(u8, usize),
+pub struct NoSlip {
+    pub refusal: Refusal,
+    pub at: usize,
 }
 
 // Puts the first `size` bytes of a slip where they belong, one by one: a loop would become a call of memcpy, which firmware need not have.
@@ -49,78 +49,82 @@ fn put(slip: &[u8; 6], size: usize, slips: &mut [u8], at: usize)
     slips[at + 5] = slip[5];
 }
 
-// Writes the slip of block k, read as r, into the slice at an offset.
-pub fn write(slips: &mut [u8], at: usize, k: usize, r: Reading) -> Wrote
-    ensures { WriteSlipDone slips.old at k (reading_answer r) result slips.new }
+// Writes the slip of block k, read as r, into the slice at an offset. The two come each by itself, as C lends them.
+pub fn write(slips: &mut [u8], at: usize, k: usize, r: Reading) -> Result<usize, Refusal>
+    ensures { WriteSlipDone slips.old at k (reading_answer r) (wrote_said result) slips.new }
 {
-    if !make::has_slip(k, r) {
-        return Wrote::Refused(16);
-    }
-    let made = make::slip(k, r);
+    let made = make::slip(k, r)?;
     let size = made.size;
     // The slice's bytes from the offset on are counted: an offset and a slip's length may be more than a number holds.
-    if at > slips.len() {
-        return Wrote::Refused(17);
-    }
-    let full = slips.len() - at < size;
+    let full = at > slips.len() || slips.len() - at < size;
     if full {
-        return Wrote::Refused(17);
+        return Err(Refusal::NoRoom);
     }
-    let slip = made.bytes;
-    put(&slip, size, slips, at);
-    Wrote::Next(at + size)
+    put(&made.bytes, size, slips, at);
+    Ok(at + size)
 }
 
 // Low byte first.
 fn block_number(low: u8, high: u8) -> usize
     ensures { result ≡ low + 256 * high }
 {
-    low as usize + 256 * (high as usize)
+    usize::from(u16::from_le_bytes([low, high]))
 }
 
 // The reading that the bytes of a slip tell.
+#[tactic(auto, unfolding(crate::specs::Limits::limits_of, crate::specs::Limits::answer_told))]
 fn reading_in(slip: &[u8]) -> Reading
     requires { (length slip.now ≡ 1 + (limits_of (get_or slip.now 0 0)).size) × ((limits_of (get_or slip.now 0 0)).size ≢ 0) }
     ensures { reading_answer result ≡ answer_told slip.now }
 {
     match slip[0] {
-        3 => Reading::Corrected(Kind::Clean),
-        11 => Reading::Corrected(Kind::Chips(slip[4])),
-        15 => Reading::Corrected(Kind::OneCard(slip[4], slip[5])),
-        17 => Reading::Refused(slip[3]),
-        _ => Reading::Several(slip[3]),
+        limits::CLEAN => Ok(Kind::Clean),
+        limits::CHIPS => Ok(Kind::Chips(slip[4])),
+        limits::ONE_CARD => Ok(Kind::OneCard(slip[4], slip[5])),
+        limits::NONE_FITS => Err(Fault::Refused(slip[3])),
+        _ => Err(Fault::Several(slip[3])),
     }
 }
 
 // Reads the slip in the slice at an offset.
-pub fn read(slips: &[u8], at: usize) -> Found
-    ensures { ReadSlipDone slips.now at result slips.now }
+pub fn read(slips: &[u8], at: usize) -> Result<SlipRead, NoSlip>
+    ensures { ReadSlipDone slips.now at (found_said result) slips.now }
 {
     let n = slips.len();
+    let cut_off = NoSlip {
+        refusal: Refusal::SlipCutOff,
+        at: n,
+    };
     if at >= n {
-        return Found::Refused(15, n);
+        return Err(cut_off);
     }
-    let behind = limits::behind(slips[at]);
-    let size = behind.size;
-    if size == 0 {
-        return Found::Refused(16, at);
-    }
-    let least = behind.least;
-    let most = behind.most;
-    let mut p = at + 1;
-    let mut i = 0;
-    while i < size {
+    let Some(allowed) = limits::behind(slips[at]) else {
+        return Err(NoSlip {
+            refusal: Refusal::NoSuchSlip,
+            at,
+        });
+    };
+    // Alone, without the size, they take less stack.
+    let each = allowed.each;
+    let limits = &each[..allowed.size];
+    for (i, &(least, most)) in limits.iter().enumerate() {
+        let p = at + 1 + i;
         let cut = p >= n;
         if cut {
-            return Found::Refused(15, n);
+            return Err(cut_off);
         }
-        if !limits::between(least[i], slips[p], most[i]) {
-            return Found::Refused(16, p);
+        if !(least..=most).contains(&slips[p]) {
+            return Err(NoSlip {
+                refusal: Refusal::NoSuchSlip,
+                at: p,
+            });
         }
-        p += 1;
-        i += 1;
     }
-    let slip = &slips[at..p];
-    let k = block_number(slip[1], slip[2]);
-    Found::Slip(k, reading_in(slip), p)
+    let next = at + 1 + limits.len();
+    let slip = &slips[at..next];
+    Ok(SlipRead {
+        block: block_number(slip[1], slip[2]),
+        reading: reading_in(slip),
+        next,
+    })
 }

@@ -10,7 +10,7 @@ use Prim.Native.Nat.{ℕ, ◌<◌}
 use native.Mathlib.Omega.{arith}
 use lib.Dec.{eqb}
 use borrow.Author.Tests.{eq-eqb, ne_eqb}
-use Rattle.base.proofs.Tests.{same}
+use Rattle.std.proofs.lemmas.Bool.{cases_eq}
 use Rattle.field.specs.Field.{◌⊕◌, ◌·◌, sum}
 use Rattle.field.proofs.Xor.{add_assoc, sums}
 use Rattle.field.proofs.Gf256.{field}
@@ -26,7 +26,7 @@ times_if false c e = mul_zero 8 ◌·◌ field c
 -- of a chip's five places one is on card j
 one_card : (j i r e : ℕ) → j < 5 → i < 9 → r < 9 → sum 5 (λ k. if (eqb (position k i) (position j r)) e 0) ≡ if (eqb i r) e 0
 one_card j i r e hj hi hr =
-    sum_ext 5 (λ k. if (eqb (position k i) (position j r)) e 0) (λ k. if (eqb k j) (if (eqb i r) e 0) 0) (λ k l. both k (same k j) (same i r))
+    sum_ext 5 (λ k. if (eqb (position k i) (position j r)) e 0) (λ k. if (eqb k j) (if (eqb i r) e 0) 0) (λ k l. both k (cases_eq k j) (cases_eq i r))
     ∙ sum_one 5 j (λ k. if (eqb i r) e 0) hj
   where
     both : (k : ℕ) → (k ≡ j) ⊎ (k ≢ j) → (i ≡ r) ⊎ (i ≢ r) → if (eqb (position k i) (position j r)) e 0 ≡ if (eqb k j) (if (eqb i r) e 0) 0

@@ -1,5 +1,6 @@
 -- The block that a record is stored as: it is there, and it is the only one. For any labels, and their factors.
 --
+--   begun_bytes           what the code writes first are bytes
 --   is_stored             the block that the code ends with
 --   refused_2, refused_3, stored   what the contract says, by its cause
 use mathlib.Core.Logic.{◌≢◌, ◌⊎◌, inl, inr}
@@ -10,11 +11,11 @@ use Prim.Native.Nat.{ℕ, ◌+◌, ◌-◌, ◌/◌, ◌<◌, ◌≤◌, ◌^◌
 use native.Mathlib.Decide.{dec_lt}
 use native.Mathlib.Omega.{arith}
 use lib.Dec.{eqb}
-use lib.ListN.{length, take}
+use lib.ListN.{length, take, get_or-eq_default}
 use lib.Seq.{length-take-le, ext_get_or, get_or-take}
 use borrow.Author.Tests.{eq-eqb, ne_eqb}
 use Rattle.base.specs.Base.{In, if}
-use Rattle.base.proofs.Tests.{same}
+use Rattle.std.proofs.lemmas.Bool.{cases_eq}
 use Rattle.answer.specs.Answer.{done, refused}
 use Rattle.answer.specs.Cause.{cause}
 use Rattle.answer.proofs.Causes.{first_holds, by_refused, by_done}
@@ -49,6 +50,20 @@ rows_met rec card b hc w i h =
     ap₂ (λ (x y : ℕ). x ⊕ y) (w.card_is i h ∙ hc i h)
     (sum_ext 4 (λ k. byte b (position k i)) (λ k. byte rec (position k i)) (λ k l. w.front (position k i) (omega arith)))
     ∙ add_self (sum 4 (λ k. byte rec (position k i)))
+
+pub begun_bytes : (rec card b : List ℕ) → ((p : ℕ) → byte rec p < 2 ^ 8) → ((i : ℕ) → i < 9 → byte card i ≡ chip_sum rec i) → Begun rec card b
+    → (p : ℕ) → byte b p < 2 ^ 8
+unfolding chip_sum
+begun_bytes rec card b h hc w p = at (dec_lt p 36) (dec_lt p 45)
+  where
+    at : Dec (p < 36) → Dec (p < 45) → byte b p < 2 ^ 8
+    at (yes l) m = subst (λ (x : ℕ). x < 2 ^ 8) (sym (w.front p l)) (h p)
+    at (no n) (yes m) =
+        let e : 36 + (p - 36) ≡ p = omega (arith, n) in
+        let l : p - 36 < 9 = omega (arith, n, m) in
+        subst (λ (x : ℕ). x < 2 ^ 8) (sym (ap (byte b) (sym e) ∙ w.card_is (p - 36) l ∙ hc (p - 36) l))
+        (sum_below 8 4 (λ k. byte rec (position k (p - 36))) (λ k. h (position k (p - 36))))
+    at (no n) (no m) = subst (λ (x : ℕ). x < 2 ^ 8) (sym (get_or-eq_default b 0 {n = p} (omega (arith, w.long, m)))) (lib.Pow.pow_pos 8)
 
 module _ (labels : List ℕ) (set : LabelSet labels) (f g h k : ℕ) (F : Factors labels f g h k)
     (rec card b b₁ b₂ : List ℕ) (lr : length rec ≡ 34) (below : (p : ℕ) → byte b p < 2 ^ 8)
@@ -152,7 +167,7 @@ module _ (labels : List ℕ) (set : LabelSet labels) (f g h k : ℕ) (F : Factor
 
       differ : (z : List ℕ) → Stored labels rec z → (p : ℕ) → p < 45 → Dec (p < 34) → (byte z p ≡ byte b₂ p) ⊎ ((p / 9 ≡ 4) ⊎ In p (34 ∷ 35 ∷ []))
       differ z st p l (yes a) = inl (sym (get_or-take 34 z p 0 a) ∙ ap (λ (v : List ℕ). byte v p) st.begins ∙ sym (front p a))
-      differ z st p l (no a) = inr (late p (omega arith) l (same p 34) (same p 35))
+      differ z st p l (no a) = inr (late p (omega arith) l (cases_eq p 34) (cases_eq p 35))
 
       -- bytes 34, 35 and card 4 are "one card and two chips"
       only : (z : List ℕ) → Stored labels rec z → z ≡ b₂

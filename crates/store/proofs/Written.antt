@@ -1,64 +1,71 @@
--- Lists that the code writes place by place.
+-- Lists that the code writes.
 --
---   written      a loop's stores: what holds at the places passed holds at one more
 --   begun        the record copied in, two zeros, and card 4
 --   added_at, in_row_at, in_row_length   a block after an amount is added at a place, and at two places of a row
 use mathlib.Core.Logic.{◌≢◌, ◌⊎◌, inl, inr}
-use mathlib.Core.Path.{◌≡◌, sym, ap, ap₂, ◌∙◌, subst}
+use mathlib.Core.Path.{◌≡◌, sym, ap, ap₂, ◌∙◌}
 use mathlib.Core.Bool.{Bool}
-use mathlib.Core.List.{List}
+use mathlib.Core.List.{List, ◌++◌}
 use Prim.Native.Nat.{ℕ, ◌+◌, ◌<◌, ◌≤◌}
 use native.Mathlib.Omega.{arith}
 use lib.Dec.{eqb}
-use lib.ListN.{length, set, length-set, get_or-eq_default}
-use lib.Seq.{get_or-set_same, get_or-set_other}
-use borrow.Author.Count.{below_more}
+use lib.ListN.{length, set, take, drop, length-set, length-append, length-drop, get_or-append, get_or-eq_default}
+use lib.Seq.{length-take-le, get_or-take, get_or-set_same, get_or-set_other}
+use Rattle.std.proofs.lemmas.List.{get_or-append-add}
+use borrow.Rule.Slice.PartMut.{post_of, put_mid}
 use borrow.Author.Tests.{eq-eqb, ne_eqb}
-use Rattle.base.proofs.Tests.{same}
+use Rattle.std.proofs.lemmas.Bool.{cases_eq}
 use Rattle.field.specs.Field.{◌⊕◌}
 use Rattle.field.proofs.Xor.{add_zero}
 use Rattle.code.specs.Block.{byte}
 use Rattle.base.specs.Base.{if}
-use Rattle.store.specs.Steps.{Copied, Filled, Begun, added, in_row}
-
--- place k of the loop is at k of the list
-pub written : (at : ℕ → ℕ) (P : ℕ → ℕ → Type 0) (l : List ℕ) (i v : ℕ) → at i < length l → ((k : ℕ) → k < i → at k ≢ at i)
-    → ((k : ℕ) → k < i → P k (byte l (at k))) → P i v → (k : ℕ) → k < i + 1 → P k (byte (set l (at i) v) (at k))
-written at P l i v h apart passed new =
-    below_more (λ k. P k (byte (set l (at i) v) (at k))) i
-    (λ k g. subst (P k) (sym (get_or-set_other l (at i) (at k) v 0 (apart k g))) (passed k g))
-    (subst (P i) (sym (get_or-set_same l (at i) v 0 h)) new)
+use Rattle.store.specs.Steps.{Begun, added, in_row}
 
 -- ---- the 45 bytes written first
-pub begun : (rec card z own out a b : List ℕ) → length rec ≡ 34 → length z ≡ 34 → length out ≡ 45 → Copied rec z own → Copied own out a
-    → Filled card (set (set a 34 0) 35 0) b → Begun rec card b
-begun rec card z own out a b lr lz lo c₁ c₂ f = record {
-  long = f.long ∙ length-set (set a 34 0) 35 0 ∙ length-set a 34 0 ∙ c₂.long ∙ lo;
-  front = λ p h. f.front p h ∙ at p h (same p 35) (same p 34);
-  card_is = f.card_is;
-}
+pub begun : (rec card out from to : List ℕ) → length rec ≡ 34 → length card ≡ 9 → length out ≡ 45 → from ≡ rec → to ≡ card
+    → Begun rec card (put_mid 36 9 (set (set (from ++ post_of 0 34 out) 34 0) 35 0) to)
+begun rec card out from to lr lc lo ef et = rw (ef, et) (record {
+  long = length-append (take 36 w) (card ++ post_of 36 9 w) ∙ omega (arith, lf, length-append card (post_of 36 9 w), lc, lp);
+  front = λ p h.
+      get_or-append (take 36 w) (card ++ post_of 36 9 w) 0 p (omega (arith, lf, h)) ∙ get_or-take 36 w p 0 h
+      ∙ at p h (cases_eq p 35) (cases_eq p 34);
+  card_is = λ i h.
+      ap (λ (n : ℕ). byte (put_mid 36 9 w card) (n + i)) (sym lf) ∙ get_or-append-add (take 36 w) (card ++ post_of 36 9 w) i 0
+      ∙ get_or-append card (post_of 36 9 w) 0 i (omega (arith, lc, h));
+})
   where
-    la : length a ≡ 45
-    la = c₂.long ∙ lo
+    a : List ℕ
+    a = rec ++ post_of 0 34 out
 
-    lw : length own ≡ 34
-    lw = c₁.long ∙ lz
+    w : List ℕ
+    w = set (set a 34 0) 35 0
+
+    la : length a ≡ 45
+    la = length-append rec (post_of 0 34 out) ∙ omega (arith, lr, length-drop 34 (drop 0 out), length-drop 0 out, lo)
+
+    lw : length w ≡ 45
+    lw = length-set (set a 34 0) 35 0 ∙ length-set a 34 0 ∙ la
+
+    lf : length (take 36 w) ≡ 36
+    lf = length-take-le 36 w (omega (arith, lw))
+
+    lp : length (post_of 36 9 w) ≡ 0
+    lp = omega (arith, length-drop 9 (drop 36 w), length-drop 36 w, lw)
 
     -- a byte beyond the record's end
     beyond : (p : ℕ) → 34 ≤ p → 0 ≡ byte rec p
     beyond p h = sym (get_or-eq_default rec 0 {n = p} (omega (arith, lr)))
 
-    at : (p : ℕ) → p < 36 → (p ≡ 35) ⊎ (p ≢ 35) → (p ≡ 34) ⊎ (p ≢ 34) → byte (set (set a 34 0) 35 0) p ≡ byte rec p
-    at p h (inl e) o =
-        ap (byte (set (set a 34 0) 35 0)) e ∙ get_or-set_same (set a 34 0) 35 0 0 (simp length-set (omega (arith, la))) ∙ beyond p (omega arith)
+    at : (p : ℕ) → p < 36 → (p ≡ 35) ⊎ (p ≢ 35) → (p ≡ 34) ⊎ (p ≢ 34) → byte w p ≡ byte rec p
+    at p h (inl e) o = ap (byte w) e ∙ get_or-set_same (set a 34 0) 35 0 0 (simp length-set (omega (arith, la))) ∙ beyond p (omega arith)
     at p h (inr n) (inl e) =
         get_or-set_other (set a 34 0) 35 p 0 0 n ∙ ap (byte (set a 34 0)) e ∙ get_or-set_same a 34 0 0 (omega (arith, la)) ∙ beyond p (omega arith)
     at p h (inr n) (inr m) =
-        get_or-set_other (set a 34 0) 35 p 0 0 n ∙ get_or-set_other a 34 p 0 0 m ∙ c₂.front p (omega (arith, lw)) ∙ c₁.front p (omega (arith, lr))
+        get_or-set_other (set a 34 0) 35 p 0 0 n ∙ get_or-set_other a 34 p 0 0 m ∙ get_or-append rec (post_of 0 34 out) 0 p (omega (arith, lr))
 
 -- ---- an amount added
 pub added_at : (b : List ℕ) (p e : ℕ) → p < length b → (q : ℕ) → byte (added b p e) q ≡ byte b q ⊕ if (eqb q p) e 0
-added_at b p e h q = pick (same q p)
+added_at b p e h q = pick (cases_eq q p)
   where
     pick : (q ≡ p) ⊎ (q ≢ p) → byte (added b p e) q ≡ byte b q ⊕ if (eqb q p) e 0
     pick (inl i) =

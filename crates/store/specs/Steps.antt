@@ -1,7 +1,5 @@
 -- The steps of storing.
 --
---   Copied            the front of a list is another
---   Filled            card 4 is nine bytes, and what is before it stays
 --   Begun             the record, zeros for bytes 34 and 35, and nine bytes as card 4
 --   in_row b p e      e added at position p and at the next card's in its row
 --
@@ -9,15 +7,6 @@
 use Rattle.std.specs.Prelude.{◌≡◌, List, ℕ, ◌+◌, ◌<◌, length, set}
 use Rattle.field.specs.Field.{◌⊕◌}
 use Rattle.code.specs.Block.{byte}
-
-pub record Copied (from to to' : List ℕ) : Type 0 where
-  pub long : length to' ≡ length to
-  pub front : (p : ℕ) → p < length from → byte to' p ≡ byte from p
-
-pub record Filled (card b b' : List ℕ) : Type 0 where
-  pub long : length b' ≡ length b
-  pub front : (p : ℕ) → p < 36 → byte b' p ≡ byte b p
-  pub card_is : (i : ℕ) → i < 9 → byte b' (36 + i) ≡ byte card i
 
 pub record Begun (rec card b : List ℕ) : Type 0 where
   pub long : length b ≡ 45

@@ -1,14 +1,15 @@
 -- A record's words, and the block that it begins.
 --
---   down                        a word shifted down by a byte holds the bytes from one place further on, where the last is 0
---   four_sums, next_sums        four words of a record hold its chip sums, from chip 0 on and from chip 1 on
+--   four_sums                   four words of a record, from the same chip on, hold its chip sums
+--   third                       the word of its bytes of card 3, from a chip on
 --   begun_front, begun_card     the bytes of the block begun, before card 4 and on it; begun_below: they are bytes
---   front_word, card_word, next_word   its words
+--   front_word, card_word       its words: the record's, and that of its chip sums
 use mathlib.Core.Path.{◌≡◌, sym, ap, ◌∙◌}
 use mathlib.Core.Bool.{Bool}
 use mathlib.Core.List.{List}
-use Prim.Native.Nat.{ℕ, suc, ◌+◌, ◌-◌, ◌*◌, ◌/◌, ◌^◌, ◌<◌, ◌≤◌}
+use Prim.Native.Nat.{ℕ, ◌+◌, ◌-◌, ◌*◌, ◌/◌, ◌%◌, ◌^◌, ◌<◌, ◌≤◌}
 use native.Mathlib.Decide.{dec_lt}
+use native.Mathlib.Nat.{div-eq_of_lt, lt_of_lt_of_le}
 use native.Mathlib.Omega.{arith}
 use lib.Dec.{ltb}
 use lib.ListN.{length, get_or-eq_default}
@@ -20,47 +21,40 @@ use Rattle.field.proofs.Linear.{if_below}
 use Rattle.field.proofs.Sum.{sum_below}
 use Rattle.code.specs.Block.{byte, position}
 use Rattle.pairs.specs.Words.{byte_of}
-use Rattle.sums.specs.Sums.{chip_sum, begun}
-use Rattle.pairs.proofs.Bytes.{byte_of_add, byte_of_next}
-use Rattle.sums.proofs.Whole.{Holds}
+use Rattle.sums.specs.Sums.{chip_sum, begun, Holds, Word}
+use Rattle.pairs.proofs.Bytes.{byte_of_add}
+use lib.Pow.{pow_mono, shr-shr}
 
-eighth : (w : ℕ) → w < 2 ^ 64 → byte_of w 8 ≡ 0
+-- a word ends with byte 7
+past : (w n : ℕ) → w < 2 ^ 64 → 8 ≤ n → byte_of w n ≡ 0
 unfolding byte_of
-eighth w h = omega (arith, h)
+past w n h l = ap (λ (x : ℕ). x % 2 ^ 8) (div-eq_of_lt (lt_of_lt_of_le h (pow_mono {i = 64} {j = 8 * n} (omega arith))))
 
-pub down : (b : ℕ → ℕ) (k w : ℕ) → w < 2 ^ 64 → Holds b k w → b (k + 8) ≡ 0 → Holds b (1 + k) (w / 2 ^ 8)
-down b k w h holds end i l = sym (byte_of_next w i) ∙ at (dec_lt i 7)
-  where
-    at : Dec (i < 7) → byte_of w (suc i) ≡ b (1 + k + i)
-    at (yes m) = holds (suc i) (omega arith) ∙ ap b (let e : k + suc i ≡ 1 + k + i = omega arith in e)
-    at (no m) =
-        let e : suc i ≡ 8 = omega arith in
-        let g : k + 8 ≡ 1 + k + i = omega arith in
-        ap (byte_of w) e ∙ eighth w h ∙ sym end ∙ ap b g
-
-pub beyond : (rec : List ℕ) (p : ℕ) → length rec ≡ 34 → 34 ≤ p → byte rec p ≡ 0
+beyond : (rec : List ℕ) (p : ℕ) → length rec ≡ 34 → 34 ≤ p → byte rec p ≡ 0
 beyond rec p e h = get_or-eq_default rec 0 {n = p} (omega (arith, e))
 
--- ---- chip sums
-pub four_sums : (rec : List ℕ) (w₀ w₉ w₁₈ w₂₇ : ℕ) → Holds (byte rec) 0 w₀ → Holds (byte rec) 9 w₉ → Holds (byte rec) 18 w₁₈ → Holds (byte rec) 27 w₂₇
-    → (i : ℕ) → i < 8 → byte_of (w₀ ⊕ w₉ ⊕ w₁₈ ⊕ w₂₇) i ≡ chip_sum rec i
-unfolding chip_sum sum
-four_sums rec w₀ w₉ w₁₈ w₂₇ h₀ h₉ h₁₈ h₂₇ i l =
-    let e₀ : 9 * 0 + i ≡ 0 + i = omega arith in
-    let e₁ : 9 * 1 + i ≡ 9 + i = omega arith in
-    let e₂ : 9 * 2 + i ≡ 18 + i = omega arith in
-    let e₃ : 9 * 3 + i ≡ 27 + i = omega arith in
-    rw (e₀, e₁, e₂, e₃) (simp (byte_of_add i, h₀ i l, h₉ i l, h₁₈ i l, h₂₇ i l, sums))
+-- the word from byte 26 on, shifted down to chip i of card 3: the record ends with it
+pub third : (rec : List ℕ) (w i : ℕ) → length rec ≡ 34 → w < 2 ^ 64 → Holds (byte rec) 26 w → Holds (byte rec) (27 + i) (w / 2 ^ (8 + 8 * i))
+unfolding byte_of
+third rec w i long h holds k l =
+    ap (λ (x : ℕ). x % 2 ^ 8) (shr-shr w (8 + 8 * i) (8 * k) ∙ ap (λ (n : ℕ). w / 2 ^ n) (let e : 8 + 8 * i + 8 * k ≡ 8 * (1 + i + k) = omega arith in e))
+    ∙ at (dec_lt (1 + i + k) 8)
+  where
+    at : Dec (1 + i + k < 8) → byte_of w (1 + i + k) ≡ byte rec (27 + i + k)
+    at (yes m) = holds (1 + i + k) m ∙ ap (byte rec) (let e : 26 + (1 + i + k) ≡ 27 + i + k = omega arith in e)
+    at (no m) = past w (1 + i + k) h (omega arith) ∙ sym (beyond rec (27 + i + k) long (omega arith))
 
-pub next_sums : (rec : List ℕ) (w₁ w₁₀ w₁₉ w₂₈ : ℕ) → Holds (byte rec) 1 w₁ → Holds (byte rec) 10 w₁₀ → Holds (byte rec) 19 w₁₉ → Holds (byte rec) 28 w₂₈
-    → (i : ℕ) → i < 8 → byte_of (w₁ ⊕ w₁₀ ⊕ w₁₉ ⊕ w₂₈) i ≡ chip_sum rec (1 + i)
+-- ---- chip sums
+pub four_sums : (rec : List ℕ) (i w₀ w₁ w₂ w₃ : ℕ)
+    → Holds (byte rec) i w₀ → Holds (byte rec) (9 + i) w₁ → Holds (byte rec) (18 + i) w₂ → Holds (byte rec) (27 + i) w₃
+    → (k : ℕ) → k < 8 → byte_of (w₀ ⊕ w₁ ⊕ w₂ ⊕ w₃) k ≡ chip_sum rec (i + k)
 unfolding chip_sum sum
-next_sums rec w₁ w₁₀ w₁₉ w₂₈ h₁ h₁₀ h₁₉ h₂₈ i l =
-    let e₀ : 9 * 0 + (1 + i) ≡ 1 + i = omega arith in
-    let e₁ : 9 * 1 + (1 + i) ≡ 10 + i = omega arith in
-    let e₂ : 9 * 2 + (1 + i) ≡ 19 + i = omega arith in
-    let e₃ : 9 * 3 + (1 + i) ≡ 28 + i = omega arith in
-    rw (e₀, e₁, e₂, e₃) (simp (byte_of_add i, h₁ i l, h₁₀ i l, h₁₉ i l, h₂₈ i l, sums))
+four_sums rec i w₀ w₁ w₂ w₃ h₀ h₁ h₂ h₃ k l =
+    let e₀ : 9 * 0 + (i + k) ≡ i + k = omega arith in
+    let e₁ : 9 * 1 + (i + k) ≡ 9 + i + k = omega arith in
+    let e₂ : 9 * 2 + (i + k) ≡ 18 + i + k = omega arith in
+    let e₃ : 9 * 3 + (i + k) ≡ 27 + i + k = omega arith in
+    rw (e₀, e₁, e₂, e₃) (simp (byte_of_add k, h₀ k l, h₁ k l, h₂ k l, h₃ k l, sums))
 
 -- ---- the block begun
 pub begun_front : (rec : List ℕ) (p : ℕ) → p < 36 → begun rec p ≡ byte rec p
@@ -76,11 +70,9 @@ unfolding chip_sum
 begun_below rec h p =
     if_below 8 (ltb p 36) (byte rec p) (chip_sum rec (p - 36)) (h p) (sum_below 8 4 (λ k. byte rec (position k (p - 36))) (λ k. h (position k (p - 36))))
 
-pub front_word : (rec : List ℕ) (k w : ℕ) → k + 8 ≤ 36 → Holds (byte rec) k w → Holds (begun rec) k w
-front_word rec k w h holds i l = holds i l ∙ sym (begun_front rec (k + i) (omega arith))
+pub front_word : (rec : List ℕ) (k w : ℕ) → k + 8 ≤ 36 → Word (byte rec) k w → Word (begun rec) k w
+front_word rec k w h word = (word.0, λ i l. word.1 i l ∙ sym (begun_front rec (k + i) (omega arith)))
 
-pub card_word : (rec : List ℕ) (w : ℕ) → ((i : ℕ) → i < 8 → byte_of w i ≡ chip_sum rec i) → Holds (begun rec) 36 w
-card_word rec w h i l = h i l ∙ sym (begun_card rec i)
-
-pub next_word : (rec : List ℕ) (w : ℕ) → ((i : ℕ) → i < 8 → byte_of w i ≡ chip_sum rec (1 + i)) → Holds (begun rec) 37 w
-next_word rec w h i l = h i l ∙ sym (begun_card rec (1 + i)) ∙ ap (begun rec) (let e : 36 + (1 + i) ≡ 37 + i = omega arith in e)
+pub card_word : (rec : List ℕ) (i w : ℕ) → w < 2 ^ 64 → Holds (chip_sum rec) i w → Word (begun rec) (36 + i) w
+card_word rec i w h holds =
+    (h, λ k l. holds k l ∙ sym (begun_card rec (i + k)) ∙ ap (begun rec) (let e : 36 + (i + k) ≡ 36 + i + k = omega arith in e))

@@ -12,7 +12,8 @@ use native.Mathlib.Omega.{arith}
 use lib.Dec.{T, eqb, eqb→eq}
 use lib.ListN.{length, take, drop}
 use Rattle.base.specs.Base.{digit}
-use Rattle.base.proofs.Tests.{same, every, every_at}
+use Rattle.std.proofs.lemmas.Bool.{cases_eq}
+use Rattle.base.proofs.Tests.{every, every_at}
 use Rattle.code.specs.Block.{byte, Lawful}
 use Rattle.code.specs.Labels.{built_in}
 use Rattle.sums.specs.Sums.{rows_of, IsSums, BlockSums, IsRecordSums, RecordSums, FourLeft}
@@ -40,14 +41,14 @@ one_record_sums labels rec s s' w v =
     same_sums s s' (λ i l. w.rows i l ∙ sym (v.rows i l)) w.eight v.eight (w.once ∙ sym v.once) (w.squared ∙ sym v.squared)
 
 pub sums_decided : (b : List ℕ) (s s' : Sums) (x x' : List ℕ) → BlockSums b s x → BlockSums b s' x' → (s ≡ s') × (x ≡ x')
-sums_decided b s s' x x' w v = (pick (same (length b) 45), w.kept ∙ sym v.kept)
+sums_decided b s s' x x' w v = (pick (cases_eq (length b) 45), w.kept ∙ sym v.kept)
   where
     pick : (length b ≡ 45) ⊎ (length b ≢ 45) → s ≡ s'
     pick (inl e) = one_sums _ b s s' (w.block e) (v.block e)
     pick (inr e) = w.other e ∙ sym (v.other e)
 
 pub record_decided : (rec : List ℕ) (s s' : Sums) (x x' : List ℕ) → RecordSums rec s x → RecordSums rec s' x' → (s ≡ s') × (x ≡ x')
-record_decided rec s s' x x' w v = (pick (same (length rec) 34), w.kept ∙ sym v.kept)
+record_decided rec s s' x x' w v = (pick (cases_eq (length rec) 34), w.kept ∙ sym v.kept)
   where
     pick : (length rec ≡ 34) ⊎ (length rec ≢ 34) → s ≡ s'
     pick (inl e) = one_record_sums _ rec s s' (w.record_sums e) (v.record_sums e)
@@ -55,7 +56,7 @@ record_decided rec s s' x x' w v = (pick (same (length rec) 34), w.kept ∙ sym 
 
 -- a digit that is 0 exactly where something holds
 same_digit : (P : Type 0) (x y : ℕ) → x < 2 → y < 2 → (x ≡ 0) ↔ P → (y ≡ 0) ↔ P → x ≡ y
-same_digit P x y hx hy f g = pick (same x 0) (same y 0)
+same_digit P x y hx hy f g = pick (cases_eq x 0) (cases_eq y 0)
   where
     pick : (x ≡ 0) ⊎ (x ≢ 0) → (y ≡ 0) ⊎ (y ≢ 0) → x ≡ y
     pick (inl a) (inl b) = a ∙ sym b
@@ -85,7 +86,7 @@ four_digits P r r' h h' is is' =
     at k l = same_digit (P k) (digit r k) (digit r' k) (omega arith) (omega arith) (is k l) (is' k l)
 
 pub four_decided : (b : List ℕ) (r r' : ℕ) (x x' : List ℕ) → FourLeft b r x → FourLeft b r' x' → (r ≡ r') × (x ≡ x')
-four_decided b r r' x x' w v = (pick (same (length b) 180), w.kept ∙ sym v.kept)
+four_decided b r r' x x' w v = (pick (cases_eq (length b) 180), w.kept ∙ sym v.kept)
   where
     pick : (length b ≡ 180) ⊎ (length b ≢ 180) → r ≡ r'
     pick (inl e) = four_digits (λ k. Lawful built_in (take 45 (drop (45 * k) b))) r r' w.below v.below (w.four e) (v.four e)

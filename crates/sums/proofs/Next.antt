@@ -32,9 +32,8 @@ use Rattle.sums.specs.Maps.{turned, times, settled}
 use Rattle.sums.specs.Sums.{rows_of, taken, next}
 use Rattle.sums.specs.declared.Sums.{Sums}
 use Rattle.pairs.proofs.Points.{through, agree, once_at, squared_at, spread_at, at_point_below}
-use Rattle.pairs.proofs.Bytes.{byte_of_below, byte_of_add}
-use Rattle.sums.proofs.Cards.{nine_at}
-use Rattle.sums.proofs.Zero.{low_row}
+use Rattle.pairs.proofs.Bytes.{byte_of_add}
+use Rattle.sums.proofs.Zero.{low_row, rows_below}
 use Rattle.pairs.proofs.Fold.{after, low_add, part_add, up_add, paired_add, no_pair, first_of, second_of, once_from, squared_from}
 use Rattle.sums.proofs.Syndrome.{built_in_below}
 
@@ -136,21 +135,18 @@ module _ (◌∗◌ : ℕ → ℕ → ℕ) (F : IsField 8 ◌∗◌) (c x : ℕ)
 
 -- ---- the rows
 module _ (s : Sums) (h : s.high < 2 ^ 8) where
-  rows_below : (i : ℕ) → i < 9 → byte (rows_of s) i < 2 ^ 8
-  rows_below = nine_at (byte_of s.low) s.high (λ i x. x < 2 ^ 8) (λ i l. byte_of_below s.low i) h
-
   once_over : (j : ℕ) → at_point 2 8 (gathered (rows_of s) (spread built_in) j) ≡ sum 9 (λ i. byte built_in (9 * j + i) · byte (rows_of s) i)
   unfolding gathered
   once_over j =
       once_at 9 (λ i. byte built_in (9 * j + i)) (byte (rows_of s)) (λ i. get_or (spread built_in) (9 * j + i) 0)
-      (λ i l. spread_at built_in (9 * j + i)) (λ i l. built_in_below (9 * j + i)) rows_below
+      (λ i l. spread_at built_in (9 * j + i)) (λ i l. built_in_below (9 * j + i)) (rows_below s h)
 
   squared_over : (j : ℕ) → at_point 4 8 (gathered (rows_of s) (spread built_in) j)
       ≡ sum 9 (λ i. (byte built_in (9 * j + i) · byte built_in (9 * j + i)) · byte (rows_of s) i)
   unfolding gathered
   squared_over j =
       squared_at 9 (λ i. byte built_in (9 * j + i)) (byte (rows_of s)) (λ i. get_or (spread built_in) (9 * j + i) 0)
-      (λ i l. spread_at built_in (9 * j + i)) (λ i l. built_in_below (9 * j + i)) rows_below
+      (λ i l. spread_at built_in (9 * j + i)) (λ i l. built_in_below (9 * j + i)) (rows_below s h)
 
   -- entries that are c times others
   scaled : (c : ℕ) (f g : ℕ → ℕ) → ((i : ℕ) → i < 9 → g i ≡ c · f i)

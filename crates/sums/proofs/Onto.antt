@@ -14,19 +14,17 @@ use Rattle.code.specs.Block.{byte, position, Block, block_of}
 use Rattle.code.specs.Labels.{LabelSet}
 use Rattle.code.proofs.Blocks.{block_of_at, block_of_length}
 use Rattle.code.proofs.Onto.{onto}
-use Rattle.pairs.specs.Words.{byte_of}
 use Rattle.sums.specs.Sums.{rows_of, IsSums}
 use Rattle.sums.specs.declared.Sums.{Sums}
-use Rattle.pairs.proofs.Bytes.{byte_of_below}
-use Rattle.sums.proofs.Cards.{nine_at}
+use Rattle.sums.proofs.Zero.{rows_below}
 
 module _ (ls : List ℕ) (ok : LabelSet ls) (s : Sums)
     (low : s.low < 2 ^ 64) (high : s.high < 2 ^ 8) (once : s.once < 2 ^ 8) (twice : s.squared < 2 ^ 8) where
-  rows_below : (i : ℕ) → byte (rows_of s) i < 2 ^ 8
-  rows_below i = at (dec_lt i 9)
+  all_below : (i : ℕ) → byte (rows_of s) i < 2 ^ 8
+  all_below i = at (dec_lt i 9)
     where
       at : Dec (i < 9) → byte (rows_of s) i < 2 ^ 8
-      at (yes l) = nine_at (byte_of s.low) s.high (λ i x. x < 2 ^ 8) (λ i l. byte_of_below s.low i) high i l
+      at (yes l) = rows_below s high i l
       at (no n) = subst (λ (x : ℕ). x < 2 ^ 8) (sym (get_or-eq_default (rows_of s) 0 {n = i} (omega (arith, n)))) (lib.Pow.pow_pos 8)
 
   -- the label sums, by the number of the rule
@@ -56,7 +54,7 @@ module _ (ls : List ℕ) (ok : LabelSet ls) (s : Sums)
     where
       w : (y : ℕ → ℕ) × ((p : ℕ) → y p < 2 ^ 8) × ((i : ℕ) → i < 9 → sum 5 (λ k. y (position k i)) ≡ byte (rows_of s) i)
           × ((t : ℕ) → t < 2 → sum 45 (λ p. squared ◌·◌ t (byte ls p) · y p) ≡ by_rule t)
-      w = onto ls ok (byte (rows_of s)) by_rule rows_below by_rule_below
+      w = onto ls ok (byte (rows_of s)) by_rule all_below by_rule_below
 
       at : (p : ℕ) → p < 45 → byte (block_of w.0) p ≡ w.0 p
       at p l = block_of_at w.0 p l

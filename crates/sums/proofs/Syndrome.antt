@@ -1,7 +1,7 @@
 -- The sums of a block, and those reduced to a card, for any labels and the words spread from them.
 --
 --   once_of, squared_of   the word that gathers 45 bytes gives their label sums; pair_once, pair_squared: as the code takes them from the pair
---   from_zero             the 45 bytes from place 0 on
+--   nine_rows             the rows, from the words that the code puts them together from
 --   built_in_below        the built-in labels are bytes
 --   in_part, no_part      one card's part of the words, as the code has it in figures, is its part of all; above card 4 there is none
 --   reduced_sums   what the word that gathers the rows by card j's words adds to the label sums makes them those of card j's reduced matrix
@@ -25,6 +25,7 @@ use Rattle.sums.specs.Sums.{rows_of, IsSums, ReducedSums}
 use Rattle.sums.specs.declared.Sums.{Sums}
 use Rattle.pairs.proofs.Points.{once_at, squared_at, spread_at, spread_length}
 use Rattle.pairs.proofs.Fold.{once_from, squared_from}
+use Rattle.sums.proofs.Cards.{nine_at}
 
 pub built_in_below : (p : ℕ) → byte built_in p < 2 ^ 8
 built_in_below = label_below built_in built_in_set
@@ -45,9 +46,14 @@ module _ (labels : List ℕ) (b : ℕ → ℕ) (hl : (p : ℕ) → byte labels p
   pub pair_squared : (v x : ℕ) → v ≡ at_both u → x ≡ byte_of v 4 → x ≡ sum 45 (λ p. (byte labels p · byte labels p) · b p)
   pair_squared v x ev ex = ex ∙ ap (λ (y : ℕ). byte_of y 4) ev ∙ squared_from u ∙ squared_of
 
--- from place 0 on
-pub from_zero : (b : List ℕ) (g : ℕ → ℕ) → sum 45 (λ p. byte b (0 + p) * g p) ≡ sum 45 (λ p. byte b p * g p)
-from_zero b g = sum_ext 45 (λ p. byte b (0 + p) * g p) (λ p. byte b p * g p) (λ p l. ap (λ (q : ℕ). byte b q * g p) (let e : 0 + p ≡ p = omega arith in e))
+-- the nine rows, from the words of chips 0 to 7 and of chips 1 to 8
+pub nine_rows : (s : Sums) (low high : ℕ) (row : ℕ → ℕ) → s.low ≡ low → s.high ≡ byte_of high 7
+    → ((k : ℕ) → k < 8 → byte_of low k ≡ row (0 + k)) → ((k : ℕ) → k < 8 → byte_of high k ≡ row (1 + k))
+    → (i : ℕ) → i < 9 → byte (rows_of s) i ≡ row i
+nine_rows s low high row el eh hl hh =
+    nine_at (byte_of s.low) s.high (λ i x. x ≡ row i)
+    (λ i l. ap (λ (u : ℕ). byte_of u i) el ∙ hl i l ∙ ap row (let e : 0 + i ≡ i = omega arith in e))
+    (eh ∙ hh 7 (omega arith))
 
 -- ---- one card's part of the words
 -- r holds card j's nine words
@@ -81,8 +87,9 @@ module _ (labels b : List ℕ) (set : LabelSet labels) (block : Block b) (s : Su
   unfolding squared
   squared_is = ap₂ (λ (x y : ℕ). x ⊕ y) known.squared (rows_times (λ x. x · x)) ∙ sym (red_sum 8 ◌·◌ field labels 1 j (byte b))
 
-  rows_below : (i : ℕ) → i < 9 → byte (rows_of s) i < 2 ^ 8
-  rows_below i l = subst (λ (x : ℕ). x < 2 ^ 8) (sym (known.rows i l)) (sum_below 8 5 (λ k. byte b (position k i)) (λ k. all_below b block (position k i)))
+  -- sums of bytes
+  bytes : (i : ℕ) → i < 9 → byte (rows_of s) i < 2 ^ 8
+  bytes i l = subst (λ (x : ℕ). x < 2 ^ 8) (sym (known.rows i l)) (sum_below 8 5 (λ k. byte b (position k i)) (λ k. all_below b block (position k i)))
 
   module _ (h : j < 5) (words : List ℕ) (w : words ≡ spread labels) where
     is : (i : ℕ) → i < 9 → get_or words (9 * j + i) 0 ≡ spread_of 8 (byte labels (9 * j + i))
@@ -97,6 +104,6 @@ module _ (labels b : List ℕ) (set : LabelSet labels) (block : Block b) (s : Su
         let ls : ℕ → ℕ = λ i. byte labels (9 * j + i) in
         let ws : ℕ → ℕ = λ i. get_or words (9 * j + i) 0 in
         record {
-          once = ap (λ (x : ℕ). s.once ⊕ x) (ap (at_point 2 8) e ∙ once_at 9 ls (byte (rows_of s)) ws is own_below rows_below) ∙ once_is;
-          squared = ap (λ (x : ℕ). s.squared ⊕ x) (ap (at_point 4 8) e ∙ squared_at 9 ls (byte (rows_of s)) ws is own_below rows_below) ∙ squared_is;
+          once = ap (λ (x : ℕ). s.once ⊕ x) (ap (at_point 2 8) e ∙ once_at 9 ls (byte (rows_of s)) ws is own_below bytes) ∙ once_is;
+          squared = ap (λ (x : ℕ). s.squared ⊕ x) (ap (at_point 4 8) e ∙ squared_at 9 ls (byte (rows_of s)) ws is own_below bytes) ∙ squared_is;
         }

@@ -5,8 +5,6 @@
 --
 --   window            the word from byte k on
 --   lower_add, upper_add, wrapped_add   the code's maps are additive
---   Word              w is the word of the eight bytes of a block from k on
---   held, held_first  the word from a place of a list on, as one of the block from another place on
 --   cards_are         what the code makes of ten words of a block is the sum of byte times spread label
 use mathlib.Core.Path.{◌≡◌, sym, ap, ap₂, ◌∙◌}
 use mathlib.Core.List.{List}
@@ -31,6 +29,7 @@ use Rattle.sums.specs.Maps.{lower, upper, quotient, wrapped}
 use Rattle.pairs.proofs.Points.{through, agree, spread_at, spread_times_add}
 use Rattle.pairs.proofs.Bytes.{same_bytes, placed}
 use Rattle.pairs.proofs.Fold.{up_add, after}
+use Rattle.sums.specs.Sums.{Word}
 
 pub lower_add : (p q b a p' q' b' a' : ℕ) → lower (p ⊕ p') (q ⊕ q') (b ⊕ b') (a ⊕ a') ≡ lower p q b a ⊕ lower p' q' b' a'
 unfolding lower
@@ -122,13 +121,6 @@ byte_of_window k z i l =
     ∙ mod-mod-pow (y / 2 ^ (8 * i)) d 8
     ∙ ap (λ (x : ℕ). x % 2 ^ 8) (shr-shr z (8 * k) (8 * i) ∙ ap (λ (n : ℕ). z / 2 ^ n) g)
 
--- w is the word of the eight bytes of a block from k on
-abbrev pub Holds : (ℕ → ℕ) → ℕ → ℕ → Type 0
-Holds b k w = (i : ℕ) → i < 8 → byte_of w i ≡ b (k + i)
-
-abbrev pub Word : (ℕ → ℕ) → ℕ → ℕ → Type 0
-Word b k w = (w < 2 ^ 64) × Holds b k w
-
 module _ (b : ℕ → ℕ) (hb : (p : ℕ) → b p < 2 ^ 8) where
   number : ℕ
   number = sum 45 (λ p. b p * 2 ^ (8 * p))
@@ -145,31 +137,25 @@ module _ (b : ℕ → ℕ) (hb : (p : ℕ) → b p < 2 ^ 8) where
       through whole whole_add 45 (λ p. b p * 2 ^ (8 * p))
       ∙ sum_ext 45 (λ p. whole (b p * 2 ^ (8 * p))) (λ p. b p * get_or (spread built_in) p 0) (λ p l. one_byte p (b p) l (hb p))
 
-  pub cards_are : (w₁₈ w₃₆ w₀ w₉ w₂₇ w₁₉ w₃₇ w₁ w₁₀ w₂₈ l h : ℕ)
-      → Word b 18 w₁₈ → Word b 36 w₃₆ → Word b 0 w₀ → Word b 9 w₉ → Word b 27 w₂₇
-      → Word b 19 w₁₉ → Word b 37 w₃₇ → Word b 1 w₁ → Word b 10 w₁₀ → Word b 28 w₂₈
+  pub cards_are : (w₀ w₉ w₁₈ w₂₇ w₃₆ w₁ w₁₀ w₁₉ w₂₈ w₃₇ l h : ℕ)
+      → Word b 0 w₀ → Word b 9 w₉ → Word b 18 w₁₈ → Word b 27 w₂₇ → Word b 36 w₃₆
+      → Word b 1 w₁ → Word b 10 w₁₀ → Word b 19 w₁₉ → Word b 28 w₂₈ → Word b 37 w₃₇
       → l ≡ lower (w₀ ⊕ w₃₆) (w₉ ⊕ w₃₆) w₁₈ (w₂₇ ⊕ w₁₈) → h ≡ upper (w₁ ⊕ w₃₇) (w₁₀ ⊕ w₃₇) w₁₉ (w₂₈ ⊕ w₁₉)
       → wrapped l h ≡ sum 45 (λ p. b p * get_or (spread built_in) p 0)
   unfolding whole low_word high_word two
-  cards_are w₁₈ w₃₆ w₀ w₉ w₂₇ w₁₉ w₃₇ w₁ w₁₀ w₂₈ l h h₁₈ h₃₆ h₀ h₉ h₂₇ h₁₉ h₃₇ h₁ h₁₀ h₂₈ el eh =
+  cards_are w₀ w₉ w₁₈ w₂₇ w₃₆ w₁ w₁₀ w₁₉ w₂₈ w₃₇ l h h₀ h₉ h₁₈ h₂₇ h₃₆ h₁ h₁₀ h₁₉ h₂₈ h₃₇ el eh =
       cc (
-        word_of 18 w₁₈ (omega arith) h₁₈,
-        word_of 36 w₃₆ (omega arith) h₃₆,
         word_of 0 w₀ (omega arith) h₀,
         word_of 9 w₉ (omega arith) h₉,
+        word_of 18 w₁₈ (omega arith) h₁₈,
         word_of 27 w₂₇ (omega arith) h₂₇,
-        word_of 19 w₁₉ (omega arith) h₁₉,
-        word_of 37 w₃₇ (omega arith) h₃₇,
+        word_of 36 w₃₆ (omega arith) h₃₆,
         word_of 1 w₁ (omega arith) h₁,
         word_of 10 w₁₀ (omega arith) h₁₀,
+        word_of 19 w₁₉ (omega arith) h₁₉,
         word_of 28 w₂₈ (omega arith) h₂₈,
+        word_of 37 w₃₇ (omega arith) h₃₇,
         el,
         eh,
         whole_is,
       )
-
-pub held : (b : List ℕ) (at k w : ℕ) → Holds (byte b) (at + k) w → Holds (λ p. byte b (at + p)) k w
-held b at k w h i l = h i l ∙ ap (byte b) (let e : at + k + i ≡ at + (k + i) = omega arith in e)
-
-pub held_first : (b : List ℕ) (at w : ℕ) → Holds (byte b) at w → Holds (λ p. byte b (at + p)) 0 w
-held_first b at w h i l = h i l ∙ ap (byte b) (let e : at + i ≡ at + (0 + i) = omega arith in e)

@@ -10,10 +10,13 @@
 --   taken s j         what the rows add to both label sums where card j takes them, as a pair
 --   next v            what card j + 1 takes, from what card j takes
 --   FourLeft          which of four blocks one after the other are not lawful, a binary digit each
+--   Holds b k w       the bytes of w are the eight of b from k on; Word: w is their word
+--   CardWords b i ws  ws are the words of the five cards of b, from chip i on; RowsWord b i u: u is their sum
+--   SumsOver          s holds the label sums of the 45 bytes b, and nine rows
 --   ReducedSums       the two sums of card j's reduced matrix: card j has dropped out
 --
 -- (A byte beyond the end of a list counts as 0.)
-use Rattle.std.specs.Prelude.{◌≡◌, ◌≢◌, ◌↔◌, Bool, ◌&&◌, List, [], ◌∷◌, ℕ, ◌-◌, ◌*◌, ◌^◌, ◌<◌, eqb, ltb, length, take, drop}
+use Rattle.std.specs.Prelude.{◌≡◌, ◌≢◌, ◌↔◌, Bool, ◌&&◌, List, [], ◌∷◌, ℕ, ◌+◌, ◌-◌, ◌*◌, ◌^◌, ◌<◌, eqb, ltb, length, get_or, take, drop}
 use Rattle.base.specs.Base.{if, digit}
 use Rattle.field.specs.Field.{◌·◌, sum}
 use Rattle.code.specs.Block.{byte, position, listed, Lawful}
@@ -77,6 +80,27 @@ pub record FourLeft (b : List ℕ) (r : ℕ) (b' : List ℕ) : Type 0 where
   pub four : length b ≡ 180 → (k : ℕ) → k < 4 → (digit r k ≡ 0) ↔ Lawful built_in (take 45 (drop (45 * k) b))
   pub other : length b ≢ 180 → r ≡ 15
   pub kept : b' ≡ b
+
+-- ---- what the code makes the sums from: no promise rests on these
+abbrev pub Holds : (ℕ → ℕ) → ℕ → ℕ → Type 0
+Holds b k w = (i : ℕ) → i < 8 → byte_of w i ≡ b (k + i)
+
+abbrev pub Word : (ℕ → ℕ) → ℕ → ℕ → Type 0
+Word b k w = (w < 2 ^ 64) × Holds b k w
+
+abbrev pub CardWords : (ℕ → ℕ) → ℕ → List ℕ → Type 0
+CardWords b i words = (j : ℕ) → j < 5 → Word b (9 * j + i) (get_or words j 0)
+
+pub record RowsWord (b : ℕ → ℕ) (i u : ℕ) : Type 0 where
+  pub words : List ℕ
+  pub cards : CardWords b i words
+  pub total : u ≡ sum 5 (λ j. get_or words j 0)
+
+pub record SumsOver (labels : List ℕ) (b row : ℕ → ℕ) (s : Sums) : Type 0 where
+  pub rows : (i : ℕ) → i < 9 → byte (rows_of s) i ≡ row i
+  pub eight : s.low < 2 ^ 64
+  pub once : s.once ≡ sum 45 (λ p. byte labels p · b p)
+  pub squared : s.squared ≡ sum 45 (λ p. (byte labels p · byte labels p) · b p)
 
 pub record ReducedSums (labels b : List ℕ) (j t₁ t₂ : ℕ) : Type 0 where
   pub once : t₁ ≡ sum 45 (λ p. entry labels j p · byte b p)

@@ -29,7 +29,7 @@ use Rattle.code.specs.Reach.{rules, keep, Reached}
 use Rattle.code.proofs.BuiltIn.{figures, in_figures, built_in_set}
 use Rattle.code.proofs.Reach.{fits, closed, candidate_few, reached_few}
 use Rattle.code.proofs.Members.{zero_stored}
-use Rattle.marks.specs.declared.CardMark.TheVariants.{None, Card}
+use Rattle.std.specs.Prelude.{None, Some}
 use Rattle.reading.specs.Allowed.{u, further, further_beside, ChipKind, BesideKind, CardChanged}
 use Rattle.reading.specs.Reading.{S, Reaches, LowestReaching}
 use Rattle.reading.proofs.Searches.{covered, covers}
@@ -99,28 +99,28 @@ module _ (b : List ℕ) (bb : Block b) (ps : List ℕ) (few : Few rules ps) wher
       s = record { block = (zero_stored built_in).block; lawful = (zero_stored built_in).lawful; allowed = inl k }
 
   -- under a card mark: y, by a change of card j, of the marked chips and of the further chips fs
-  module _ (j : ℕ) (hj : j < 5) {r y : List ℕ} (st : Stored built_in r y) (fs : List ℕ) (l : length fs ≤ further_beside (u (Card j) ps))
+  module _ (j : ℕ) (hj : j < 5) {r y : List ℕ} (st : Stored built_in r y) (fs : List ℕ) (l : length fs ≤ further_beside (u (Some j) ps))
       (t : T (only b y (λ p. either (eqb (p / 9) j) (either (is_in p ps) (is_in p fs))))) where
     by_beside : BesideKind j ps b y
     by_beside = (fs, l, within b y (λ p. or (equal (p / 9) j) (or (listed p ps) (listed p fs))) t)
 
-    one_beside : OneMember (S built_in (Card j) ps b) y
+    one_beside : OneMember (S built_in (Some j) ps b) y
     one_beside = (s, λ z g. card_one built_in built_in_set ps few b j hj z y g s)
       where
-        s : S built_in (Card j) ps b y
+        s : S built_in (Some j) ps b y
         s = record { block = st.block; lawful = st.lawful; allowed = by_beside }
 
     pub card_row : (p : ℕ) → p < 45 → p / 9 ≡ j → eqb (byte b p) (byte y p) ≡ false → (n : ℕ) → T (eqb n (changes b y))
-        → Exactly (Card j) ps b (corrected (in_card j n) y)
+        → Exactly (Some j) ps b (corrected (in_card j n) y)
     card_row p hp e ne n c =
-        one_answer (Card j) ps b (in_card j n) y
+        one_answer (Some j) ps b (in_card j n) y
         (λ out. (one_beside, eqb→eq _ _ c, (λ k. k.1 (p, hp, e, eqb-false _ _ ne)), refl))
 
     -- no byte of card j is changed
     pub beside_row : T (every (λ p. either (not (eqb (p / 9) j)) (eqb (byte b p) (byte y p))) 45) → (p : ℕ) → eqb (byte y p) (byte b p) ≡ false
-        → (n : ℕ) → T (eqb n (changes b y)) → Exactly (Card j) ps b (corrected (in_chips n) y)
+        → (n : ℕ) → T (eqb n (changes b y)) → Exactly (Some j) ps b (corrected (in_chips n) y)
     beside_row o p ne n c =
-        one_answer (Card j) ps b (in_chips n) y
+        one_answer (Some j) ps b (in_chips n) y
         (λ out. (one_beside, (λ e. eqb-false _ _ ne (ap (λ (x : List ℕ). byte x p) e)), eqb→eq _ _ c, (by_beside, kept)))
       where
         kept : CardChanged j b y → ⊥

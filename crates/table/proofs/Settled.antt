@@ -12,13 +12,13 @@ use Rattle.base.specs.Base.{In}
 use Rattle.answer.specs.Answer.{Answer, refused, refused_card}
 use Rattle.code.specs.Block.{NoMember, TwoMembers}
 use Rattle.code.specs.Labels.{built_in}
-use Rattle.marks.specs.declared.CardMark.{CardMark}
+use Rattle.std.specs.declared.option.Option.{Option}
 use Rattle.reading.specs.Reading.{S, Reaches, LowestReaching, Reads}
 use Rattle.reading.proofs.Agree.{reads_only}
 use Rattle.table.specs.Table.{Told, Is, Fitting}
 use Rattle.table.specs.Table.Told.{corrected, none, several}
 
-module _ (c : CardMark) (ps b : List ℕ) where
+module _ (c : Option ℕ) (ps b : List ℕ) where
   abbrev Says : List ℕ → Answer → List ℕ → Type 0
   Says out a x = Reads built_in c ps b out a x
 

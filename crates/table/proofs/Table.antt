@@ -26,7 +26,7 @@ use Rattle.code.proofs.Eliminate as eliminate
 use Rattle.code.proofs.Reach.{fits}
 use Rattle.code.proofs.Members.{zero_stored}
 use Rattle.marks.specs.Marks.{marked_chips, marks_cause, in_range, two_equal}
-use Rattle.marks.specs.declared.CardMark.TheVariants.{None, Card}
+use Rattle.std.specs.Prelude.{None, Some}
 use Rattle.marks.specs.declared.Marks.{Marks}
 use Rattle.marks.proofs.Laws.{cause_lawful, few_chips}
 use Rattle.reading.specs.Allowed.{ChipKind}
@@ -90,7 +90,7 @@ pub beside_before : BesideCardBefore
 unfolding figures sum ◌⊕◌ polynomial_product remainder product squared fits eliminate.fits keep
 beside_before out = (refl, none, refl)
   where
-    none : NoMember (SBefore built_in (Card 0) (1 ∷ []) (zeros_but ((9, 1) ∷ [])))
+    none : NoMember (SBefore built_in (Some 0) (1 ∷ []) (zeros_but ((9, 1) ∷ [])))
     none y s =
         let w = some_beside 0 (zeros_but ((9, 1) ∷ [])) y (1 ∷ []) s.allowed in
         reached_fits (zeros_but ((9, 1) ∷ [])) (block_by _ refl tt) (1 ∷ []) (few_one 1 (omega arith)) 0 (omega arith) y

@@ -15,7 +15,7 @@ use Rattle.code.specs.Block.{Block, zeros}
 use Rattle.code.specs.Labels.{built_in}
 use Rattle.marks.specs.Marks.{marked_chips, LawfulMarks}
 use Rattle.marks.specs.Mark.{of_chips}
-use Rattle.marks.specs.declared.CardMark.TheVariants.{None, Card}
+use Rattle.std.specs.Prelude.{None, Some}
 use Rattle.marks.specs.declared.Marks.{Marks}
 use Rattle.reading.specs.Reading.{Reaches, ReadsUnder}
 use Rattle.reading.specs.Before.{ReadsBefore}
@@ -59,7 +59,7 @@ abbrev pub no_mark : Marks
 no_mark = of_chips None []
 
 abbrev pub card : ℕ → Marks
-card j = of_chips (Card j) []
+card j = of_chips (Some j) []
 
 abbrev pub chip : ℕ → Marks
 chip p = of_chips None (p ∷ [])
@@ -101,8 +101,8 @@ StarredBlocks = EveryRow starred_blocks
 
 -- "card 0, chip 1 | byte 9 = 1": order 5, "becomes chips 1 with zeros"
 abbrev pub BesideCard : Type 0
-BesideCard = Holds (of_chips (Card 0) (1 ∷ [])) (zeros_but ((9, 1) ∷ [])) (corrected (in_chips 1) zeros)
+BesideCard = Holds (of_chips (Some 0) (1 ∷ [])) (zeros_but ((9, 1) ∷ [])) (corrected (in_chips 1) zeros)
 
 -- and "none" before
 abbrev pub BesideCardBefore : Type 0
-BesideCardBefore = (out : List ℕ) → ReadsBefore built_in (Card 0) (1 ∷ []) (zeros_but ((9, 1) ∷ [])) out (refused 10) out
+BesideCardBefore = (out : List ℕ) → ReadsBefore built_in (Some 0) (1 ∷ []) (zeros_but ((9, 1) ∷ [])) out (refused 10) out

@@ -1,52 +1,53 @@
-// Text put into lent bytes from a place on, as far as there is room; each function gives the place after it: specs/Put.antt. Where there is
-// no room, nothing is written.
+// Text put into lent bytes from a place on, as far as there is room: specs/Put.antt. Where there is no room, nothing is written.
 #![tactic(auto)]
 
-ghost use Rattle.std.specs.Prelude.{◌≡◌, ◌++◌};
+ghost use Rattle.std.specs.Prelude.{◌++◌};
 ghost use Rattle.text.specs.Text.{ascii, decimal};
-ghost use Rattle.text.specs.Put.{Put};
+ghost use Rattle.text.specs.Put.{Added};
 
-// The word, the number and the newline.
-pub fn number_line(word: &[u8], n: u64, out: &mut [u8], at: usize) -> usize
-    ensures put { Put (word.now ++ (decimal n ++ ascii "\n")) out.old at result out.new }
-    ensures word_value { word.now ≡ word.now }
-{
-    let said = labelled(word, n, out, at);
-    put(b"\n", out, said)
+// The lent bytes, and the place where the next piece of text goes.
+#[derive(Drop)]
+pub struct Text<'a> {
+    pub out: &'a mut [u8],
+    pub at: usize,
 }
 
-// The word and the number.
-pub fn labelled(word: &[u8], n: u64, out: &mut [u8], at: usize) -> usize
-    ensures put { Put (word.now ++ decimal n) out.old at result out.new }
-    ensures word_value { word.now ≡ word.now }
-{
-    let said = put(word, out, at);
-    number(n, out, said)
-}
-
-// The digits of a number.
-pub fn number(n: u64, out: &mut [u8], at: usize) -> usize
-    ensures { Put (decimal n) out.old at result out.new }
-{
-    let mut digits = [0u8; 20];
-    let k = io::decimal(n, &mut digits);
-    put(&digits[..k], out, at)
-}
-
-// The bytes of a piece as they are.
-pub fn put(piece: &[u8], out: &mut [u8], at: usize) -> usize
-    ensures put { Put piece.now out.old at result out.new }
-    ensures piece_value { piece.now ≡ piece.now }
-{
-    let mut to = at;
-    let mut i = 0;
-    while i < piece.len() {
-        if to >= out.len() {
-            return to;
-        }
-        out[to] = piece[i];
-        to += 1;
-        i += 1;
+// No fmt::Write: `write!` gives a Result whose Err nothing rules out, and putting text can't fail.
+impl<'a> Text<'a> {
+    // The word, the number and the newline.
+    pub fn number_line(&mut self, word: &[u8], n: u64)
+        ensures { Added (word.now ++ (decimal n ++ ascii "\n")) self.old self.new }
+    {
+        self.labelled(word, n);
+        self.put(b"\n");
     }
-    to
+
+    // The word and the number.
+    pub fn labelled(&mut self, word: &[u8], n: u64)
+        ensures { Added (word.now ++ decimal n) self.old self.new }
+    {
+        self.put(word);
+        self.number(n);
+    }
+
+    // The digits of a number.
+    pub fn number(&mut self, n: u64)
+        ensures { Added (decimal n) self.old self.new }
+    {
+        let mut digits = [0u8; 20];
+        let k = io::decimal(n, &mut digits);
+        self.put(&digits[..k]);
+    }
+
+    // The bytes of a piece as they are.
+    pub fn put(&mut self, piece: &[u8])
+        ensures { Added piece.now self.old self.new }
+    {
+        let out = &mut *self.out;
+        if self.at < out.len() {
+            let room = piece.len().min(out.len() - self.at);
+            out[self.at..self.at + room].copy_from_slice(&piece[..room]);
+            self.at += room;
+        }
+    }
 }

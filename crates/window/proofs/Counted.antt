@@ -13,8 +13,8 @@ use lib.Dec.{eqb}
 use lib.ListN.{length, take, get_or, set, replicate, length-set, get_or-replicate}
 use lib.Seq.{take-suc, take_all, length-take-le, get_or-set_same, get_or-set_other}
 use borrow.Author.Tests.{eq-eqb, ne_eqb}
+use Rattle.std.proofs.lemmas.Bool.{cases_eq}
 use Rattle.base.specs.Base.{bit}
-use Rattle.base.proofs.Tests.{same}
 use Rattle.base.proofs.Tally.{one_le}
 use Rattle.window.specs.Window.{times}
 use Rattle.window.specs.Count.{Counts}
@@ -43,7 +43,7 @@ module _ (w c : List ℕ) (i : ℕ) (h : i < length w) (k : Counts (take i w) c)
         ∙ times_append p (take i w) (a ∷ []) ∙ omega arith
 
     pub one_counted : Counts (take (i + 1) w) (set c a (get_or c a 0 + 1))
-    one_counted = record { long = length-set c a _ ∙ k.long; each = λ p d. at p d (same p a) }
+    one_counted = record { long = length-set c a _ ∙ k.long; each = λ p d. at p d (cases_eq p a) }
       where
         at : (p : ℕ) → p < 256 → (p ≡ a) ⊎ (p ≢ a) → get_or (set c a (get_or c a 0 + 1)) p 0 ≡ times p (take (i + 1) w)
         at p d (inl z) =
@@ -61,7 +61,7 @@ all_counted w c i h k = subst (λ (l : List ℕ). Counts l c) (take_all i w h) k
 -- ---- four or more, by a loop: none from p on and before q
 pub few_more : (c : List ℕ) (p q : ℕ) → ((i : ℕ) → p ≤ i → i < q → get_or c i 0 < 4) → get_or c q 0 < 4
     → (i : ℕ) → p ≤ i → i < q + 1 → get_or c i 0 < 4
-few_more c p q h f i g b = pick (same i q)
+few_more c p q h f i g b = pick (cases_eq i q)
   where
     pick : (i ≡ q) ⊎ (i ≢ q) → get_or c i 0 < 4
     pick (inl e) = omega (arith, ap (λ (j : ℕ). get_or c j 0) e)

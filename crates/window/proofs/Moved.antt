@@ -14,8 +14,8 @@ use native.Mathlib.Omega.{arith}
 use lib.ListN.{length, take, drop, replicate, length-append, length-drop, drop_of_length-le, take-append-drop}
 use lib.Seq.{drop-append-le, drop-append-add, drop-drop, take-append-add, length-take-le, take-add, take_all, take_at, drop_at}
 use borrow.Rule.Slice.PartMut.{mid_of, put_mid, Post-is}
+use Rattle.std.proofs.lemmas.Bool.{cases_lt}
 use Rattle.base.proofs.Lists.{copied, piece, piece_long, by_way}
-use Rattle.base.proofs.Tests.{lt_or_le}
 use Rattle.window.specs.Window.{added}
 use Rattle.window.proofs.Runs.{added_long}
 
@@ -135,7 +135,7 @@ all_moved w at x y n l a h e f =
 
 -- eleven bytes have no more than eleven to take
 pub take_most : (at : List ℕ) (n : ℕ) → length at ≡ 11 → take (min n 11) at ≡ take n at
-take_most at n a = pick (lt_or_le 11 n)
+take_most at n a = pick (cases_lt 11 n)
   where
     pick : (11 < n) ⊎ (n ≤ 11) → take (min n 11) at ≡ take n at
     pick (inl h) =

@@ -11,8 +11,8 @@ use Prim.Native.Nat.{ℕ, ◌+◌, ◌-◌, ◌<◌, ◌≤◌}
 use native.Mathlib.Omega.{arith}
 use lib.ListN.{length, drop, replicate, length-append, length-drop}
 use lib.Seq.{drop-append-le, drop-append-add, drop-drop}
+use Rattle.std.proofs.lemmas.Bool.{cases_lt}
 use Rattle.base.proofs.Lists.{drop_replicate}
-use Rattle.base.proofs.Tests.{lt_or_le}
 use Rattle.window.specs.Window.{last_64, window_of, fresh_window, added}
 
 pub added_none : (w : List ℕ) → added w [] ≡ w
@@ -31,7 +31,7 @@ added_long w ps = rw (length-drop (length ps) (w ++ ps), length-append w ps) (om
 -- 64 times 255 and the run, without as many of the first
 window_drop : (run : List ℕ) → window_of run ≡ drop (length run) (fresh_window ++ run)
 unfolding window_of
-window_drop run = pick (lt_or_le 64 (length run))
+window_drop run = pick (cases_lt 64 (length run))
   where
     pick : (64 < length run) ⊎ (length run ≤ 64) → window_of run ≡ drop (length run) (fresh_window ++ run)
     pick (inl h) =

@@ -5,9 +5,9 @@ use borrow.Fn.Kinds
 use borrow.Fn.World
 use denote.Triple.Clauses
 use mathlib.Core.Path.{◌≡◌}
-use Rattle.answer.specs.Answer.{outcome_answer}
+use Rattle.answer.specs.Answer.{done}
 use Rattle.change.specs.Change.{positions}
-use Rattle.window.specs.Window.{fresh_window, added, ClearWindowDone, ProposeDone}
+use Rattle.window.specs.Window.{proposal_of, fresh_window, added, ClearWindowDone, ProposeDone}
 use Rattle.window.specs.contracts.fresh as fresh
 use Rattle.window.proofs.fresh.Kinds as fresh_kinds
 use Rattle.window.proofs.fresh.Reads as fresh_reads
@@ -29,7 +29,7 @@ pub fresh_asks : (κs : Lifetimes.Lfts 0) (a : World.ArgsD fresh.signature κs) 
 fresh_asks κs a = tt
 
 pub clear_tied : (κs : Lifetimes.Lfts 1) (a : World.ArgsD clear.signature κs) (r : World.ResD clear.signature κs)
-    (s : Clauses.AtExit (Kinds.ended_of 1 clear_kinds.ps clear_kinds.r) κs) → clear_reads.Learnt κs a r s → ClearWindowDone (outcome_answer r) s.0.now
+    (s : Clauses.AtExit (Kinds.ended_of 1 clear_kinds.ps clear_kinds.r) κs) → clear_reads.Learnt κs a r s → ClearWindowDone done s.0.now
 clear_tied κs a r s l = l
 
 pub clear_asks : (κs : Lifetimes.Lfts 1) (a : World.ArgsD clear.signature κs) → clear_reads.Asked κs a
@@ -45,7 +45,7 @@ add_asks κs a = tt
 pub propose_tied : (κs : Lifetimes.Lfts 1) (a : World.ArgsD propose.signature κs) (r : World.ResD propose.signature κs)
     (ws : Clauses.Lasts (Kinds.ended_of 1 propose_kinds.ps propose_kinds.r) κs a)
     → let s = Clauses.at_exit (Kinds.ended_of 1 propose_kinds.ps propose_kinds.r) κs a ws in propose_reads.Learnt κs a r s
-    → ProposeDone a.0.now a.1.0 r s.0.now
+    → ProposeDone a.0.now a.1.0 (proposal_of r) s.0.now
 propose_tied κs a r ws l = l
 
 pub propose_asks : (κs : Lifetimes.Lfts 1) (a : World.ArgsD propose.signature κs) → propose_reads.Asked κs a

@@ -2,23 +2,29 @@
 --
 --   Due                 a position that may be proposed
 --   ProposedExactly     which chip is proposed, when none is, and when the call is refused, each exactly when
+--   ProposeSays         the same of what the code returns
 --   proposal_number     the number of a refusal, 0 where nothing is refused
 --   WindowFigures       windows and proposals in figures
 use Rattle.std.specs.Prelude.{ℕ, ◌/◌, ◌≤◌, ◌<◌, ◌≡◌, ◌≢◌, ◌↔◌, List, [], ◌∷◌, ◌++◌, replicate}
 use Rattle.base.specs.Base.{In}
 use Rattle.marks.specs.Marks.{marked_chips, LawfulMarks, marks_cause, fresh_marks}
-use Rattle.marks.specs.declared.CardMark.TheVariants.{None, Card}
+use Rattle.std.specs.declared.option.Option.{Option}
+use Rattle.std.specs.declared.result.Result.{Result}
+use Rattle.std.specs.Prelude.{None, Some, Ok, Err}
+use Rattle.answer.specs.declared.Refusal.{Refusal}
+use Rattle.answer.specs.declared.Refusal.TheVariants.{MarkRange, EqualMarks}
+use Rattle.marks.specs.Said.{InRange, EqualChips}
 use Rattle.marks.specs.declared.Marks.{Marks}
 use Rattle.window.specs.Window.{window_of, fresh_window, added, times, proposal}
-use Rattle.window.specs.declared.Proposal.{Proposal}
-use Rattle.window.specs.declared.Proposal.TheVariants.{Chip, Nothing, Refused}
+use Rattle.window.specs.Window.{Proposal}
+use Rattle.window.specs.Window.{Chip, Nothing, Refused}
 
 -- "its position stands there four times or more and neither it nor its card is marked"
 pub record Due (l : List ℕ) (m : Marks) (p : ℕ) : Type 0 where
   pub position : p < 45
   pub often : 4 ≤ times p l
   pub unmarked : In p (marked_chips m) → ⊥
-  pub card_unmarked : m.card ≢ Card (p / 9)
+  pub card_unmarked : m.card ≢ Some (p / 9)
 
 abbrev pub proposal_number : Proposal → ℕ
 proposal_number (Chip p) = 0
@@ -31,13 +37,20 @@ pub record ProposedExactly (l : List ℕ) (m : Marks) : Type 0 where
   pub refused : (n : ℕ) → (proposal l m ≡ Refused n) ↔ ((n ≡ marks_cause m) × (n ≢ 0))
   pub number : proposal_number (proposal l m) ≡ marks_cause m
 
+-- the same of what the code returns
+pub record ProposeSays (l : List ℕ) (m : Marks) (r : Result (Option ℕ) Refusal) : Type 0 where
+  pub chip : (p : ℕ) → (r ≡ Ok (Some p)) ↔ (LawfulMarks m × Due l m p × ((q : ℕ) → q < p → Due l m q → ⊥))
+  pub nothing : (r ≡ Ok None) ↔ (LawfulMarks m × ((q : ℕ) → Due l m q → ⊥))
+  pub outside : (r ≡ Err MarkRange) ↔ (InRange m → ⊥)
+  pub equal : (r ≡ Err EqualMarks) ↔ (InRange m × EqualChips m)
+
 -- ---- in figures
 -- chip 7 marked, and card 4
 abbrev pub marks_7 : Marks
 marks_7 = record { card = None; count = 1; first = 7; second = 255 }
 
 abbrev pub marks_card_4 : Marks
-marks_card_4 = record { card = Card 4; count = 0; first = 255; second = 255 }
+marks_card_4 = record { card = Some 4; count = 0; first = 255; second = 255 }
 
 pub record WindowFigures : Type 0 where
   -- three times and four times; the lowest of two

@@ -6,18 +6,21 @@
 --   added w ps      the window after ps are added: they are its last, and as many leave, "the oldest leaving first"
 --   times p l       how often p stands in the list l
 --   due l m p       whether p stands in l four times or more and neither it nor its card is marked; due_by: by how often it stands there
+--   Proposal        a position to mark, or none, or the number of a refusal; proposal_of: as the code says it
 --   proposal l m    the lowest such position, or none (proposed); an unlawful mark record is refused with its number
 --   ClearWindowDone, ProposeDone   the contracts
 --
 -- A window is 64 bytes, the oldest position first. Any 64 bytes may be lent as one: those of 45 and more are no positions, and none is proposed.
 use Rattle.std.specs.Prelude.{ℕ, ◌+◌, ◌-◌, ◌/◌, ◌≡◌, Bool, ◌&&◌, not, List, [], ◌∷◌, ◌++◌, eqb, leb, ltb, length, drop, replicate}
 use Rattle.base.specs.Base.{if, bit, least}
-use Rattle.answer.specs.Answer.{Answer, done}
+use Rattle.answer.specs.Answer.{Answer, done, refusal_number}
 use Rattle.marks.specs.Marks.{is_marked, marks_cause}
 use Rattle.marks.specs.Mark.{card_is}
 use Rattle.marks.specs.declared.Marks.{Marks}
-use Rattle.window.specs.declared.Proposal.{Proposal}
-use Rattle.window.specs.declared.Proposal.TheVariants.{Chip, Nothing, Refused}
+use Rattle.std.specs.declared.option.Option.{Option}
+use Rattle.std.specs.declared.result.Result.{Result}
+use Rattle.std.specs.Prelude.{Some, None, Ok, Err}
+use Rattle.answer.specs.declared.Refusal.{Refusal}
 
 -- ---- what it holds
 -- "a run of which the last 64 are held"
@@ -34,6 +37,22 @@ unfoldable pub added : List ℕ → List ℕ → List ℕ
 added w ps = drop (length ps) (w ++ ps)
 
 -- ---- what it proposes
+-- a position to mark, or none; or the number of the refusal
+pub data Proposal : Type 0 where
+  Chip : (p : ℕ) → Proposal
+  Nothing : Proposal
+  Refused : (number : ℕ) → Proposal
+
+-- as the code says it
+abbrev pub proposal_of : Result (Option ℕ) Refusal → Proposal
+proposal_of (Ok (Some p)) = Chip p
+proposal_of (Ok None) = Nothing
+proposal_of (Err r) = Refused (refusal_number r)
+
+-- a position below n, or none
+abbrev pub position_below : ℕ → ℕ → Option ℕ
+position_below n p = if (ltb p n) (Some p) None
+
 abbrev pub times : ℕ → List ℕ → ℕ
 times p [] = 0
 times p (a ∷ l) = bit (eqb a p) + times p l

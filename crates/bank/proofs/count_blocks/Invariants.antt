@@ -1,13 +1,10 @@
--- The blocks below k are counted, and of the four that block k is one of it is known which of those from k on are clean: that is the
--- loop's invariant.
-use Prim.Native.Nat.{◌≤◌, ◌/◌, ◌%◌, ◌-◌}
-use lib.ListN.{length}
-use Rattle.bank.specs.Count.{LeftFrom, CountedBlocks}
+-- The loops' invariants: the blocks so far are counted, first four for each piece of 180 bytes, then one for each of 45.
+use Rattle.std.proofs.Common.{◌+◌, ◌*◌, ◌/◌, length}
+use Rattle.bank.specs.Count.{five, CountedBlocks}
 use Rattle.bank.proofs.count_blocks.Given as goal
 
--- how many of the four are left: none where k begins a four
-abbrev pub invariant-loop-k : goal.invariant-loop-k
-invariant-loop-k l = (l.k ≤ length l.bank / 45) × CountedBlocks l.bank l.m l.k l.t × LeftFrom l.bank l.k ((4 - l.k % 4) % 4) l.left
+abbrev pub invariant-loop-four : goal.invariant-loop-four
+invariant-loop-four l = CountedBlocks l.bank l.m (4 * l.four-index) (five l.t)
 
-abbrev pub decreases-loop-k : goal.decreases-loop-k
-decreases-loop-k l = length l.bank / 45 - l.k
+abbrev pub invariant-loop-b : goal.invariant-loop-b
+invariant-loop-b l = CountedBlocks l.bank l.m (4 * (length l.bank / 180) + l.b-index) (five l.t)

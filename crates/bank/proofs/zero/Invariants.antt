@@ -1,12 +1,8 @@
--- Zeros as far as was passed, and the rest as it was: that is the loop's invariant.
-use Prim.Native.Nat.{◌≤◌, ◌-◌}
+-- Zeros as far as was passed, and the rest as it was.
 use mathlib.Core.Path.{◌≡◌}
 use mathlib.Core.List.{◌++◌}
-use lib.ListN.{length, drop, replicate}
+use lib.ListN.{drop, replicate}
 use Rattle.bank.proofs.zero.Given as goal
 
-abbrev pub invariant-loop-i : goal.invariant-loop-i
-invariant-loop-i l = (l.i ≤ length l.initial.bank) × (length l.bank ≡ length l.initial.bank) × (l.bank ≡ replicate l.i 0 ++ drop l.i l.initial.bank)
-
-abbrev pub decreases-loop-i : goal.decreases-loop-i
-decreases-loop-i l = length l.initial.bank - l.i
+abbrev pub invariant-loop-b : goal.invariant-loop-b
+invariant-loop-b l = l.bank ≡ replicate l.b-index 0 ++ drop l.b-index l.initial.bank

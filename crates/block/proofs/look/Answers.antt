@@ -1,37 +1,37 @@
--- A clean block by its sums alone, any other by the decoder; the block is not touched.
-use mathlib.Core.Path.{sym, ◌∙◌}
+-- A clean block by its sums and the marks' check, any other by the decoder; the block is not touched.
+use mathlib.Core.Path.{sym, subst}
 use native.Mathlib.Omega.{arith}
 use lib.ListN.{length}
 use Rattle.base.proofs.Tally.{passes}
-use Rattle.code.specs.Block.{Block}
-use Rattle.block.proofs.Causes.{mend_none}
-use Rattle.block.proofs.Done.{clean_read, decoded_read, look_refused, look_done}
+use Rattle.reading.specs.Reading.{reading_answer}
+use Rattle.decode.specs.Decode.{Decoded, reading_of}
+use Rattle.block.specs.Read.{LookDone}
+use Rattle.block.proofs.Causes.{length_none, mend_length}
+use Rattle.block.proofs.Done.{clean_looked, decoded_looked, look_handed}
 use Rattle.block.proofs.look.Goals as goal
 
-pub returns-then-cause-ne0 : goal.returns-then-cause-ne0
-returns-then-cause-ne0 c = look_refused _ _ _ (sym c.before.block_cause-cause.ensures) c.if-cause-ne0.true
+pub returns-in_err-check_length : goal.returns-in_err-check_length
+returns-in_err-check_length c =
+    look_handed c.args.block.now c.args.m _ _ c.from_residual.ensures.1 (mend_length _ _ c.args.m c.in_err-check_length.ensures)
 
 pub returns-then-is_zero : goal.returns-then-is_zero
 returns-then-is_zero c =
-    let z = c.before in
-    let sums = z.before in
-    let call = sums.before.before in
-    let b = call.before.before.args.block.now in
-    let m = call.before.before.args.m in
-    let e = sym call.block_cause-cause.ensures ∙ sums.before.if-cause-ne0.false in
-    let h = mend_none (length b) m e in
-    let bb : Block b = record { long = h.0; bytes = λ p l. omega (arith, call.before.shared_slice_known-1.given p) } in
-    look_done b m _ b b e (clean_read m h.1 b bb sums.of_block-s.result (sums.of_block-s.ensures.block h.0)
-    (passes z.is_zero.ensures c.if-is_zero.true) b)
+    let l = length_none (length c.args.block.now) (sym c.in_ok-check_length.ensures) in
+    clean_looked c.args.m c.args.block.now (record { long = l; bytes = λ p h. omega (arith, c.type_inv.block p) }) c.of_block-s.result
+    (c.of_block-s.ensures.block l) (passes c.is_zero.ensures c.if-is_zero.true) _ c.clean_under.ensures
 
-pub returns : goal.returns
-returns c =
-    let z = c.before.before in
-    let sums = z.before in
-    let call = sums.before.before in
-    let b = call.before.before.args.block.now in
-    let m = call.before.before.args.m in
-    let e = sym call.block_cause-cause.ensures ∙ sums.before.if-cause-ne0.false in
-    let h = mend_none (length b) m e in
-    let bb : Block b = record { long = h.0; bytes = λ p l. omega (arith, call.before.shared_slice_known-1.given p) } in
-    look_done b m _ b _ e (decoded_read m h.1 b bb sums.of_block-s.result (sums.of_block-s.ensures.block h.0) c.decode-seen.result c.decode-seen.ensures)
+pub returns-in-Ok : goal.returns-in-Ok
+returns-in-Ok c =
+    let b = c.args.block.now in
+    let m = c.args.m in
+    let l = length_none (length b) (sym c.in_ok-check_length.ensures) in
+    subst (λ (d : Decoded). LookDone b m (reading_answer (reading_of d)) b) c.in-Ok.is
+    (decoded_looked m b l (λ p h. omega (arith, c.type_inv.block p)) c.of_block-s.result (c.of_block-s.ensures.block l) c.decode.result c.decode.ensures)
+
+pub returns-in-Err : goal.returns-in-Err
+returns-in-Err c =
+    let b = c.args.block.now in
+    let m = c.args.m in
+    let l = length_none (length b) (sym c.in_ok-check_length.ensures) in
+    subst (λ (d : Decoded). LookDone b m (reading_answer (reading_of d)) b) c.in-Err.is
+    (decoded_looked m b l (λ p h. omega (arith, c.type_inv.block p)) c.of_block-s.result (c.of_block-s.ensures.block l) c.decode.result c.decode.ensures)

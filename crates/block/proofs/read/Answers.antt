@@ -1,66 +1,72 @@
--- A clean block by its sums alone, any other by the decoder; the output is written only where the block is corrected.
-use mathlib.Core.Path.{sym, ◌∙◌}
+-- A clean block by its sums and the marks' check, any other by the decoder; the output is written only where the block is corrected.
+use mathlib.Core.Path.{sym, subst, ◌∙◌}
 use native.Mathlib.Omega.{arith}
 use lib.ListN.{length}
 use Rattle.base.proofs.Tally.{passes}
 use Rattle.answer.specs.Answer.{clean}
 use Rattle.code.specs.Block.{Block}
-use Rattle.change.specs.Change.{applied}
 use Rattle.reading.specs.Reading.{reading_answer}
-use Rattle.block.proofs.Causes.{read_none}
-use Rattle.block.proofs.Done.{clean_read, decoded_read, deliver, read_refused, read_done}
+use Rattle.decode.specs.Decode.{Decoded, reading_of}
+use Rattle.block.specs.Read.{ReadDone}
+use Rattle.block.proofs.Causes.{lengths_none, read_lengths, read_marks}
+use Rattle.block.proofs.Done.{clean_read, corrects_read, read_handed, read_done}
 use Rattle.block.proofs.read.Goals as goal
 
-pub returns-then-cause-ne0 : goal.returns-then-cause-ne0
-returns-then-cause-ne0 c = read_refused _ _ _ _ (sym c.before.read_cause-cause.ensures) c.if-cause-ne0.true
-
 -- both are 45 bytes, since the call is not refused
-pub copy_block-requires : goal.copy_block-requires
-copy_block-requires c =
-    let call = c.before.before.before.before.before in
-    let s = call.before.before.before in
-    let h = read_none (length s.args.received.now) s.args.m (length s.args.out.now) (sym call.read_cause-cause.ensures
-    ∙ c.before.before.before.before.if-cause-ne0.false) in
-    (h.0, h.1)
+pub unwrap-block-requires : goal.unwrap-block-requires
+unwrap-block-requires c =
+    c.as_array.ensures.variant.1 (lengths_none (length c.args.received.now) (length c.args.out.now) (sym c.in_ok-check_lengths.ensures)).0
 
-pub correct-d-requires : goal.correct-d-requires
-correct-d-requires c =
-    let call = c.before.before.before.before.before in
-    let s = call.before.before.before in
-    let h = read_none (length s.args.received.now) s.args.m (length s.args.out.now) (sym call.read_cause-cause.ensures
-    ∙ c.before.before.before.before.if-cause-ne0.false) in
-    (h.0, h.1)
+pub unwrap-output-requires : goal.unwrap-output-requires
+unwrap-output-requires c =
+    c.as_mut_array.ensures.variant.1 (lengths_none (length c.args.received.now) (length c.args.out.now) (sym c.in_ok-check_lengths.ensures)).1
+
+pub returns-in_err-check_lengths : goal.returns-in_err-check_lengths
+returns-in_err-check_lengths c =
+    read_handed c.args.received.now c.args.m c.args.out.now _ _ c.from_residual.ensures.1 (read_lengths _ _ c.args.m _ c.in_err-check_lengths.ensures)
+
+pub returns-in_err-check : goal.returns-in_err-check
+returns-in_err-check c =
+    let b = c.args.received.now in
+    let m = c.args.m in
+    let out = c.args.out.now in
+    let h = lengths_none (length b) (length out) (sym c.in_ok-check_lengths.ensures) in
+    let whole = rw c.unwrap-output.ensures at c.as_mut_array.ensures.cases in
+    rw whole.same
+    (read_handed b m out _ _ c.from_residual-in_err-check.ensures.1 (c.in_err-check.ensures ∙ sym (read_marks (length b) m (length out) h.0 h.1)))
 
 pub returns-then-is_zero : goal.returns-then-is_zero
 returns-then-is_zero c =
-    let copy = c.before.before in
-    let zero = copy.before.before.before in
-    let sums = zero.before in
-    let call = sums.before.before in
-    let s = call.before.before.before in
-    let b = s.args.received.now in
-    let m = s.args.m in
-    let out = s.args.out.now in
-    let e = sym call.read_cause-cause.ensures ∙ sums.before.if-cause-ne0.false in
-    let h = read_none (length b) m (length out) e in
-    let bb : Block b = record { long = h.0; bytes = λ p l. omega (arith, call.before.before.shared_slice_known-1.given p) } in
-    let p = passes zero.is_zero.ensures copy.before.before.if-is_zero.true in
-    read_done b m out clean _ e (rw copy.copy_block.ensures.0
-    (clean_read m h.2 b bb sums.of_block-s.result (sums.of_block-s.ensures.block h.0) p out))
+    let b = c.args.received.now in
+    let m = c.args.m in
+    let out = c.args.out.now in
+    let h = lengths_none (length b) (length out) (sym c.in_ok-check_lengths.ensures) in
+    let lawful = sym c.in_ok-check.ensures in
+    let bb : Block b = record { long = h.0; bytes = λ p l. omega (arith, c.type_inv.received p) } in
+    let whole = rw c.unwrap-block.ensures at c.as_array.ensures.cases in
+    read_done b m out clean _ (read_marks (length b) m (length out) h.0 h.1 ∙ lawful) (rw (c.copy_block.ensures.0 ∙ whole.same)
+    (clean_read m lawful b bb c.of_block-s.result (c.of_block-s.ensures.block h.0) (passes c.is_zero.ensures c.if-is_zero.true) out))
 
-pub returns : goal.returns
-returns c =
-    let corrected = c.before.before in
-    let sums = corrected.before.before.before.before in
-    let call = sums.before.before in
-    let s = call.before.before.before in
-    let d = corrected.correct-d.result in
-    let b = s.args.received.now in
-    let m = s.args.m in
-    let out = s.args.out.now in
-    let e = sym call.read_cause-cause.ensures ∙ sums.before.if-cause-ne0.false in
-    let h = read_none (length b) m (length out) e in
-    let bb : Block b = record { long = h.0; bytes = λ p l. omega (arith, call.before.before.shared_slice_known-1.given p) } in
-    let w = decoded_read m h.2 b bb sums.of_block-s.result (sums.of_block-s.ensures.block h.0) d corrected.correct-d.ensures.decoded in
-    read_done b m out (reading_answer d.reading) _ e
-    (rw corrected.correct-d.ensures.output (deliver m b b (reading_answer d.reading) (applied b d.change) w out))
+pub returns-in-Ok : goal.returns-in-Ok
+returns-in-Ok c =
+    let b = c.args.received.now in
+    let m = c.args.m in
+    let out = c.args.out.now in
+    let h = lengths_none (length b) (length out) (sym c.in_ok-check_lengths.ensures) in
+    let w = rw ((rw c.unwrap-block.ensures at c.as_array.ensures.cases).same, (rw c.unwrap-output.ensures at c.as_mut_array.ensures.cases).same)
+    at c.correct.ensures in
+    subst (λ (d : Decoded). ReadDone b m out (reading_answer (reading_of d)) b c.correct.new.out) c.in-Ok.is
+    (corrects_read m b h.0 (λ p l. omega (arith, c.type_inv.received p)) c.of_block-s.result (c.of_block-s.ensures.block h.0)
+    c.correct.result w.decoded out h.1 _ w.output)
+
+pub returns-in-Err : goal.returns-in-Err
+returns-in-Err c =
+    let b = c.args.received.now in
+    let m = c.args.m in
+    let out = c.args.out.now in
+    let h = lengths_none (length b) (length out) (sym c.in_ok-check_lengths.ensures) in
+    let w = rw ((rw c.unwrap-block.ensures at c.as_array.ensures.cases).same, (rw c.unwrap-output.ensures at c.as_mut_array.ensures.cases).same)
+    at c.correct.ensures in
+    subst (λ (d : Decoded). ReadDone b m out (reading_answer (reading_of d)) b c.correct.new.out) c.in-Err.is
+    (corrects_read m b h.0 (λ p l. omega (arith, c.type_inv.received p)) c.of_block-s.result (c.of_block-s.ensures.block h.0)
+    c.correct.result w.decoded out h.1 _ w.output)

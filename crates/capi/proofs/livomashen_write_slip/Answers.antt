@@ -1,9 +1,9 @@
 -- The reading of which the number is the code, and its slip; or it is no reading's code.
-use mathlib.Core.Path.{refl, sym, ap, ◌∙◌, subst}
+use mathlib.Core.Path.{sym, ap, ◌∙◌, subst}
 use Rattle.answer.specs.Answer.{Answer}
 use Rattle.slip.specs.Slip.{HasSlip}
 use Rattle.slip.specs.Calls.{WriteSlipDone}
-use Rattle.slip.specs.declared.Wrote.TheVariants.{Refused}
+use Rattle.slip.specs.Wrote.{Refused, wrote_said}
 use Rattle.slip.proofs.Fit.{write_fits}
 use Rattle.slip.proofs.Writing.{write_bad}
 use Rattle.capi.specs.Codes.{code}
@@ -17,7 +17,7 @@ returns-then-of_reading-answer c =
     record {
       wrote = Refused 16;
       says = write_bad _ _ _ _ (λ h. (subst (HasSlip c.args.k) n h).1);
-      coded = refl;
+      coded = c.from.ensures ∙ c.number.ensures;
     }
 
 pub of_wrote-requires : goal.of_wrote-requires
@@ -27,8 +27,8 @@ pub returns : goal.returns
 returns c =
     let n = asked_some c.args.answer (sym (c.of_reading.ensures ∙ ap code c.reading_in-r.ensures) ∙ c.if-of_reading-answer.false) in
     record {
-      wrote = c.write.result;
-      says = subst (λ (a : Answer). WriteSlipDone c.args.slips.now c.args.at c.args.k a c.write.result c.write.new.slips)
+      wrote = wrote_said c.write.result;
+      says = subst (λ (a : Answer). WriteSlipDone c.args.slips.now c.args.at c.args.k a (wrote_said c.write.result) c.write.new.slips)
           (c.reading_in-r.ensures ∙ sym n) c.write.ensures;
       coded = c.of_wrote.ensures;
     }

@@ -1,27 +1,21 @@
-use mathlib.Core.Path.{◌≡◌, refl}
-use lib.ListN.{get_or}
-use Rattle.base.specs.Base.{tally}
-use Rattle.base.proofs.Tally.{count_more}
-use Rattle.change.specs.Change.{nonzero_at}
-use Rattle.change.proofs.Weight.{at_most_one}
+use mathlib.Core.Path.{refl, ◌∙◌}
 use native.Mathlib.Omega.{arith}
+use Rattle.base.specs.Base.{tally}
+use Rattle.base.proofs.Tally.{count_more, at_most, one_le}
+use Rattle.change.specs.Change.{nonzero_at}
+use Rattle.change.proofs.Weight.{bit_of}
 use Rattle.change.proofs.count_rows.Goals as goal
 
-pub loop-i-init : goal.loop-i-init
+pub loop-row-init : goal.loop-row-init
 unfolding tally
-loop-i-init c = (omega arith, omega arith, refl)
+loop-row-init c = refl
 
 pub overflow_add-n : goal.overflow_add-n
-overflow_add-n c = let l = c.before.before in omega (arith, at_most_one (get_or l.before.args.rows l.loop-i.i 0) _ c.one_if_nonzero-n.ensures)
+overflow_add-n c =
+    let t = nonzero_at c.args.rows c.loop-row.row-index in
+    omega (arith, at_most c.loop-row.row-index (nonzero_at c.args.rows) _ c.loop-row.invariant, c.from-n.ensures, bit_of t, one_le t)
 
-pub loop-i-preserved : goal.loop-i-preserved
-loop-i-preserved c =
-    let l = c.before.before in
-    let z = l.before.args.rows in (
-      omega arith,
-      omega (arith, at_most_one (get_or z l.loop-i.i 0) _ c.one_if_nonzero-n.ensures),
-      count_more (nonzero_at z) l.loop-i.i _ _ _ l.loop-i.invariant.2 c.one_if_nonzero-n.ensures refl,
-    )
-
-pub returns : goal.returns
-returns c = let e : c.before.loop-i.i ≡ 9 = omega arith in rw e at c.before.loop-i.invariant.2
+pub loop-row-preserved : goal.loop-row-preserved
+loop-row-preserved c =
+    let i = c.loop-row.row-index in
+    count_more (nonzero_at c.args.rows) i _ _ _ c.loop-row.invariant (c.from-n.ensures ∙ bit_of (nonzero_at c.args.rows i)) refl

@@ -3,7 +3,7 @@ use Rattle.change.proofs.Listed.{turned_is, kept_is}
 use Rattle.change.proofs.in_order.Goals as goal
 
 pub returns-then-d : goal.returns-then-d
-returns-then-d c = turned_is c.before.before.before.args.d c.before.if-d.true
+returns-then-d c = turned_is c.args.d c.if-d.true
 
 pub returns : goal.returns
-returns c = kept_is c.before.before.args.d c.if-d.false
+returns c = kept_is c.args.d c.if-d.false

@@ -1,5 +1,6 @@
 -- No chip marked off the card: where the first sum is 0 the card alone can be wrong; else one chip by the quotient of the sums.
 use mathlib.Core.Path.{◌≡◌, sym, ap, ◌∙◌, subst}
+use Rattle.std.specs.Prelude.{Err}
 use mathlib.Core.List.{List, [], ◌∷◌}
 use Prim.Native.Nat.{ℕ, ◌*◌, ◌/◌}
 use native.Mathlib.Omega.{arith}
@@ -8,62 +9,43 @@ use Rattle.decode.specs.Equations.{rows_only, Solves}
 use Rattle.decode.proofs.Describe.{solves_none}
 use Rattle.decode.proofs.Marked.{on, off}
 use Rattle.decode.proofs.Beside.{none_answers, found_answers, fails_at, first_zero, first_nonzero, alone_fits}
-use Rattle.code.proofs.Few.{beside_one}
 use Rattle.decode.proofs.beside_card.Goals as goal
 
-pub returns-then-squared-ne0 : goal.returns-then-squared-ne0
-returns-then-squared-ne0 c =
-    let t = c.before in
-    let s = t.before.before.before in
-    let a = s.args in
-    let ls = a.labels.now in
-    λ sums e at. none_answers ls s.requires.0 sums a.j s.requires.1 [] (tt, tt) a.once a.squared at
-    (λ f hf. first_zero ls a.j a.once a.squared t.before.if-once-eq0.true t.if-squared-ne0.true f) c.refused.result c.refused.ensures
+pub returns-then-e-ne0 : goal.returns-then-e-ne0
+returns-then-e-ne0 c =
+    let e = c.args.e in
+    let ls = e.labels.now in
+    λ sums z at. none_answers ls c.requires sums e.card e.of_card [] (tt, tt) e.once e.squared at
+    (λ f hf. first_zero ls e.card e.once e.squared c.if-e-eq0.true c.if-e-ne0.true f) (Err c.into.result) (ap Err c.into.ensures)
 
-pub returns-then-once-eq0 : goal.returns-then-once-eq0
-returns-then-once-eq0 c =
-    let d = c.before in
-    let t = d.before in
-    let s = t.before.before.before in
-    let a = s.args in
-    let ls = a.labels.now in
-    let card : 9 * a.j / 9 ≡ a.j = omega arith in
-    λ sums e at. found_answers ls s.requires.0 sums a.j s.requires.1 [] (tt, tt) a.once a.squared at (9 * a.j) (omega (arith, s.requires.1))
-    d.alone-d.result
-    (subst (λ (qs : List ℕ). Solves ls (rows_of sums) a.j qs a.once a.squared d.alone-d.result) (on (9 * a.j) a.j card)
-    (subst (Solves ls (rows_of sums) a.j [] a.once a.squared) (sym (d.alone-d.ensures ∙ ap (λ (z : List ℕ). rows_only z a.j) e))
-    (solves_none ls (rows_of sums) a.j s.requires.1 a.once a.squared
-    (alone_fits ls a.j a.once a.squared t.before.if-once-eq0.true t.if-squared-ne0.false))))
+pub returns-then-e-eq0 : goal.returns-then-e-eq0
+returns-then-e-eq0 c =
+    let e = c.args.e in
+    let ls = e.labels.now in
+    let d = c.alone-d.result in
+    let card : 9 * e.card / 9 ≡ e.card = omega arith in
+    λ sums z at. found_answers ls c.requires sums e.card e.of_card [] (tt, tt) e.once e.squared at (9 * e.card) (omega (arith, e.of_card)) d
+    (subst (λ (qs : List ℕ). Solves ls (rows_of sums) e.card qs e.once e.squared d) (on (9 * e.card) e.card card)
+    (subst (Solves ls (rows_of sums) e.card [] e.once e.squared) (sym (c.alone-d.ensures ∙ ap (λ (y : List ℕ). rows_only y e.card) z))
+    (solves_none ls (rows_of sums) e.card e.of_card e.once e.squared (alone_fits ls e.card e.once e.squared c.if-e-eq0.true c.if-e-ne0.false))))
     _ c.kind_under.ensures
 
-pub returns-then-p-j : goal.returns-then-p-j
-returns-then-p-j c =
-    let p = c.before.before in
-    let s = p.before.before.before in
-    let a = s.args in
-    let ls = a.labels.now in
-    let n = p.before.if-once-eq0.false in
-    λ sums e at. none_answers ls s.requires.0 sums a.j s.requires.1 [] (tt, tt) a.once a.squared at
-    (λ f hf. fails_at ls a.j a.once a.squared f (first_nonzero ls a.j a.once a.squared n)
-    (p.further_chip-p.ensures.none c.before.if-p-j.true f hf)) c.refused-then-p-j.result c.refused-then-p-j.ensures
-
-pub with_one-d-requires : goal.with_one-d-requires
-with_one-d-requires c =
-    let p = c.before in
-    let s = p.before.before.before in
-    let f = p.further_chip-p.ensures in
-    (s.requires.0.bytes.long, s.requires.1, beside_one _ _ f.below c.if-p-j.false, f.off c.if-p-j.false)
+pub returns-in_default : goal.returns-in_default
+returns-in_default c =
+    let e = c.args.e in
+    let ls = e.labels.now in
+    λ sums z at. none_answers ls c.requires sums e.card e.of_card [] (tt, tt) e.once e.squared at
+    (λ f hf. fails_at ls e.card e.once e.squared f (first_nonzero ls e.card e.once e.squared c.if-e-eq0.false) (c.in_default.ensures f hf))
+    (Err c.into-in_default.result) (ap Err c.into-in_default.ensures)
 
 pub returns : goal.returns
 returns c =
-    let d = c.before in
-    let p = d.before.before in
-    let s = p.before.before.before in
-    let a = s.args in
-    let ls = a.labels.now in
-    let f = p.further_chip-p.result in
-    λ sums e at. found_answers ls s.requires.0 sums a.j s.requires.1 [] (tt, tt) a.once a.squared at f p.further_chip-p.ensures.below
-    d.with_one-d.result
-    (subst (λ (qs : List ℕ). Solves ls (rows_of sums) a.j qs a.once a.squared d.with_one-d.result) (off f a.j d.before.if-p-j.false)
-    (subst (λ (z : List ℕ). Solves ls z a.j (f ∷ []) a.once a.squared d.with_one-d.result) e d.with_one-d.ensures))
+    let e = c.args.e in
+    let ls = e.labels.now in
+    let p = c.in-Some.p in
+    let d = c.with_one-d.result in
+    let h = c.in-Some.ensures in
+    λ sums z at. found_answers ls c.requires sums e.card e.of_card [] (tt, tt) e.once e.squared at p h.0 d
+    (subst (λ (qs : List ℕ). Solves ls (rows_of sums) e.card qs e.once e.squared d) (off p e.card h.1)
+    (subst (λ (y : List ℕ). Solves ls y e.card (p ∷ []) e.once e.squared d) z c.with_one-d.ensures))
     _ c.kind_under-2.ensures

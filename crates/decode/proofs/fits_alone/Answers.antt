@@ -9,6 +9,4 @@ use Rattle.decode.proofs.fits_alone.Goals as goal
 
 pub returns : goal.returns
 returns c =
-    let s = c.before in
-    subst (Alone built_in s.args.s s.args.j) (sym (ap₂ eqb s.requires.1 c.both.ensures))
-    (alone_at s.args.s (omega arith) s.args.j s.requires.0)
+    subst (Alone built_in c.args.s c.args.j) (sym (ap₂ eqb c.requires.1 c.both.ensures)) (alone_at c.args.s (omega arith) c.args.j c.requires.0)

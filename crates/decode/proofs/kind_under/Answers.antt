@@ -7,13 +7,9 @@ use Rattle.decode.proofs.kind_under.Goals as goal
 
 pub returns-then-own-eq0 : goal.returns-then-own-eq0
 returns-then-own-eq0 c =
-    let n = c.before.before in
-    let own = n.before in
-    no_card _ _ _ _ _ _ c.before.if-own-eq0.true (own.count-own.ensures.weight ∙ ap weight own.before.alone.ensures ∙ alone_counted _ _)
-    n.count-n.ensures.weight c.chips_kind.ensures
+    no_card _ _ _ _ _ _ c.if-own-eq0.true (c.count-own.ensures.weight ∙ ap weight c.alone.ensures ∙ alone_counted _ _) c.count-n.ensures.weight
+    c.chips_kind.ensures
 
 pub returns : goal.returns
 returns c =
-    let n = c.before in
-    let own = n.before in
-    some_card _ _ _ _ _ c.if-own-eq0.false (own.count-own.ensures.weight ∙ ap weight own.before.alone.ensures ∙ alone_counted _ _) n.count-n.ensures.weight
+    some_card _ _ _ _ _ c.if-own-eq0.false (c.count-own.ensures.weight ∙ ap weight c.alone.ensures ∙ alone_counted _ _) c.count-n.ensures.weight

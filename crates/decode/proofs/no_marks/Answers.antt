@@ -4,15 +4,17 @@ use mathlib.Core.Bool.{true}
 use mathlib.Core.List.{List, []}
 use Prim.Native.Nat.{ℕ, ◌+◌, ◌≤◌, ◌<◌}
 use native.Mathlib.Omega.{arith}
+use Rattle.std.specs.Prelude.{Some}
 use Rattle.code.specs.Labels.{built_in}
 use Rattle.code.proofs.BuiltIn.{built_in_set}
-use Rattle.marks.specs.declared.CardMark.TheVariants.{None}
+use Rattle.std.specs.Prelude.{None}
 use Rattle.sums.specs.Sums.{rows_of, taken, next}
 use Rattle.sums.specs.declared.Sums.{Sums}
 use Rattle.sums.proofs.Next.{next_taken}
 use Rattle.change.specs.Change.{weight}
 use Rattle.change.specs.declared.Change.{Change}
-use Rattle.reading.specs.declared.Reading.TheVariants.{Several, Refused}
+use Rattle.std.specs.Prelude.{Err}
+use Rattle.reading.specs.declared.Fault.TheVariants.{Several, Refused}
 use Rattle.decode.specs.Equations.{rows_only}
 use Rattle.decode.specs.Search.{Alone}
 use Rattle.decode.proofs.Answer.{refusal}
@@ -20,21 +22,14 @@ use Rattle.decode.proofs.Cards.{none_reads, several_reads}
 use Rattle.decode.proofs.Alone.{found_chips, found_card, second_card, passed_card, only_card, card_answers}
 use Rattle.decode.proofs.no_marks.Invariants.{Looking}
 use Rattle.decode.proofs.no_marks.Goals as goal
-use Rattle.decode.proofs.no_marks.Goals.{then-fits_alone+else-n-further+else-fitting-eq1+else-takes, else-fits_alone, else-five-test, then-five-test+then-fits_alone+else-n-further+then-fitting-eq1, then-five-test+then-fits_alone+else-n-further+else-fitting-eq1+then-takes}
+use Rattle.decode.proofs.no_marks.Goals.{then-fits_alone+else-n-further+in_default+else-takes, else-fits_alone, else-five-test, then-five-test+then-fits_alone+else-n-further+in_default+then-takes}
 use Rattle.decode.proofs.no_marks.Lts
 use Rattle.decode.proofs.no_marks.Reads
 use Rattle.decode.proofs.no_marks.Tie
 
-pub five-init : goal.five-init
-five-init c =
-    ((omega arith, λ l. c.first_card-own.ensures), omega arith, omega arith, (λ e. omega arith), ((λ e. absurd (omega arith)), λ b k i l. absurd (omega arith)))
-
 -- the rows that are not 0 are counted
 counted : (s : Sums) (rows : List ℕ) (d : Change) (n : ℕ) → rows ≡ rows_of s → d ≡ rows_only rows 0 → n ≡ weight d → n ≡ weight (rows_only (rows_of s) 0)
 counted s rows d n r e w = w ∙ ap weight (e ∙ ap (λ (z : List ℕ). rows_only z 0) r)
-
-pub fits_alone-requires : goal.fits_alone-requires
-fits_alone-requires c = (c.five-test.true, c.five.invariant.0.1 c.five-test.true)
 
 pub returns-then-n-further : goal.returns-then-n-further
 returns-then-n-further c =
@@ -43,6 +38,16 @@ returns-then-n-further c =
     c.fits_alone.ensures c.if-fits_alone.true (omega (arith, c.if-n-further.true, c.further.ensures)) _ c.chips_kind.ensures _
     (c.alone-then-n-further.ensures ∙ ap (λ (z : List ℕ). rows_only z c.five.j) c.rows-rows.ensures)
 
+-- a second card fits
+pub returns-in-Some : goal.returns-in-Some
+returns-in-Some c =
+    let is : c.five.fitting ≡ Some c.in-Some.lowest = c.in-Some.is in
+    refusal built_in None [] c.args.s (Err (Several c.in-Some.lowest)) (Several c.in-Some.lowest) refl
+    (λ b k. several_reads built_in built_in_set [] tt b c.in-Some.lowest
+    (second_card built_in built_in_set c.args.s c.count-n.result
+    (counted c.args.s _ _ _ c.rows-rows.ensures c.alone.ensures c.count-n.ensures.weight) c.five.j c.five-test.true c.fits_alone.result
+    c.fits_alone.ensures c.if-fits_alone.true b k c.in-Some.lowest (rw is at (c.five.invariant.1.1 b k))))
+
 pub five-preserved : goal.five-preserved
 five-preserved c =
     let s = c.args.s in
@@ -50,92 +55,61 @@ five-preserved c =
     let here = c.five-test.true in
     let n = counted s _ _ _ c.rows-rows.ensures c.alone.ensures c.count-n.ensures.weight in
     let own : c.five.j + 1 < 5 → c.next_card-own.result ≡ taken s (c.five.j + 1) =
-    λ m. c.next_card-own.ensures ∙ ap next (inv.0.1 here) ∙ next_taken s c.five.j (omega arith) (omega (arith, m)) in
+    λ m. c.next_card-own.ensures ∙ ap next (inv.0 here) ∙ next_taken s c.five.j (omega (arith, c.well_formed)) (omega (arith, m)) in
     elim c.if-fits_alone.branch [
-      | then-fits_alone+else-n-further+else-fitting-eq1+else-takes w ↦
-          rw (w.fitting-is, w.card-is) (
-            (omega arith, own),
-            omega arith,
-            here,
-            (λ e. omega (arith, w.if-n-further.false, w.further.ensures)),
+      | then-fits_alone+else-n-further+in_default+else-takes w ↦
+          let some : 2 ≤ c.count-n.result = omega (arith, w.if-n-further.false, w.further.ensures) in
+          rw w.fitting-is (
+            own,
             (
-              (λ e. subst (Alone built_in s c.five.j) w.if-fits_alone.true c.fits_alone.ensures),
+              (here, some, subst (Alone built_in s c.five.j) w.if-fits_alone.true c.fits_alone.ensures),
               λ b k. found_card built_in built_in_set s c.count-n.result n c.five.j here c.fits_alone.result
-                  c.fits_alone.ensures w.if-fits_alone.true (omega (arith, w.if-n-further.false, w.further.ensures)) b k c.five.card
-                  (let z : c.five.fitting ≡ 0 = omega (arith, inv.1, w.if-fitting-eq1.false) in rw z at (inv.4.1 b k)),
+                  c.fits_alone.ensures w.if-fits_alone.true some b k (rw w.in_default.is at (inv.1.1 b k)),
             ),
           )
       | else-fits_alone w ↦
-          rw (w.fitting-is, w.card-is) (
-            (omega arith, own),
-            inv.1,
-            inv.2,
-            inv.3,
+          rw w.fitting-is (
+            own,
             (
-              inv.4.0,
+              inv.1.0,
               λ b k. passed_card built_in built_in_set s c.count-n.result n c.five.j here c.fits_alone.result
-                  c.fits_alone.ensures w.if-fits_alone.false b k c.five.fitting c.five.card (inv.4.1 b k),
+                  c.fits_alone.ensures w.if-fits_alone.false b k c.five.fitting (inv.1.1 b k),
             ),
           )
     ]
 
--- after the loop: at most two blocks are found, and all five cards have been looked at, or two of them reach one, or one does and takes an
--- amount other than 0
+-- after the loop: all five cards have been looked at, or one fits and takes an amount other than 0
 left : (c : Lts.Left-five Tie.the-claims Reads.Pre Reads.Post goal.the-invariant-five goal.the-decreases-five)
-    → (c.five-test.fitting ≤ 2) × (c.five-test.card < 5) × Looking c.args.s 5 c.five-test.fitting c.five-test.card
+    → Looking c.args.s c.count-n.result 5 c.five-test.fitting
 left c =
     let s = c.args.s in
     let inv = c.five.invariant in
     let n = counted s _ _ _ c.rows-rows.ensures c.alone.ensures c.count-n.ensures.weight in
     elim c.five-test.branch [
-      | else-five-test w ↦
-          rw (w.fitting-is, w.card-is) (
-            omega (arith, inv.1),
-            inv.2,
-            let e : c.five.j ≡ 5 = omega (arith, w.five-test.false, inv.0.0) in rw e at inv.4,
-          )
-      | then-five-test+then-fits_alone+else-n-further+then-fitting-eq1 w ↦
-          rw (w.fitting-is, w.card-is) (
-            omega arith,
-            inv.2,
-            (
-              (λ e. absurd (omega arith)),
-              λ b k. second_card built_in built_in_set s c.count-n.result n c.five.j w.five-test.true w.fits_alone.result
-                  w.fits_alone.ensures w.if-fits_alone.true b k c.five.card (rw w.if-fitting-eq1.true at (inv.4.1 b k)),
-            ),
-          )
-      | then-five-test+then-fits_alone+else-n-further+else-fitting-eq1+then-takes w ↦
-          rw (w.fitting-is, w.card-is) (
-            omega arith,
-            w.five-test.true,
-            (
-              (λ e. subst (Alone built_in s c.five.j) w.if-fits_alone.true w.fits_alone.ensures),
-              λ b k.
-                  let z : c.five.fitting ≡ 0 = omega (arith, inv.1, w.if-fitting-eq1.false) in
-                  let before = rw z at (inv.4.1 b k) in
-                  let some : c.five.own ≢ 0 = w.if-takes.true in
-                  only_card s (omega (arith, c.well_formed)) (omega (arith, c.well_formed)) b k c.five.j w.five-test.true
-                  (λ e. some (inv.0.1 w.five-test.true ∙ e)) c.five.card before
-                  (found_card built_in built_in_set s c.count-n.result n c.five.j w.five-test.true w.fits_alone.result w.fits_alone.ensures
-                  w.if-fits_alone.true (omega (arith, w.if-n-further.false, w.further.ensures)) b k c.five.card before),
-            ),
+      | else-five-test w ↦ rw w.fitting-is (let e : c.five.j ≡ 5 = omega (arith, w.five-test.false, c.five.auto.j-end) in rw e at inv.1)
+      | then-five-test+then-fits_alone+else-n-further+in_default+then-takes w ↦
+          let here = w.five-test.true in
+          let some : 2 ≤ c.count-n.result = omega (arith, w.if-n-further.false, w.further.ensures) in
+          let takes : c.five.own ≢ 0 = w.if-takes.true in
+          rw w.fitting-is (
+            (here, some, subst (Alone built_in s c.five.j) w.if-fits_alone.true w.fits_alone.ensures),
+            λ b k.
+                let before = rw w.in_default.is at (inv.1.1 b k) in
+                only_card s (omega (arith, c.well_formed)) (omega (arith, c.well_formed)) b k c.five.j here
+                (λ e. takes (inv.0 here ∙ e)) before
+                (found_card built_in built_in_set s c.count-n.result n c.five.j here w.fits_alone.result w.fits_alone.ensures
+                w.if-fits_alone.true some b k before),
           )
     ]
 
-pub returns-then-fitting-eq0 : goal.returns-then-fitting-eq0
-returns-then-fitting-eq0 c =
-    refusal built_in None [] c.args.s c.refused.result (Refused 10) c.refused.ensures
-    (λ b k. none_reads built_in built_in_set [] tt b c.five-test.card (rw c.if-fitting-eq0.true at ((left c.before.before).2.1 b k)))
-
-pub returns-then-fitting-eq2 : goal.returns-then-fitting-eq2
-returns-then-fitting-eq2 c =
-    refusal built_in None [] c.args.s c.refused-then-fitting-eq2.result (Several _) c.refused-then-fitting-eq2.ensures
-    (λ b k. several_reads built_in built_in_set [] tt b c.five-test.card (rw c.if-fitting-eq2.true at ((left c.before.before.before).2.1 b k)) _ (omega arith))
+pub returns-in_default-fitting : goal.returns-in_default-fitting
+returns-in_default-fitting c =
+    refusal built_in None [] c.args.s (Err c.into.result) (Refused 10) (ap Err c.into.ensures)
+    (λ b k. none_reads built_in built_in_set [] tt b (rw c.in_default-fitting.is at ((left c.before.before).1 b k)))
 
 pub returns : goal.returns
 returns c =
-    let l = left c.before.before.before in
-    let one : c.five-test.fitting ≡ 1 = omega (arith, l.0, c.if-fitting-eq2.false, c.if-fitting-eq0.false) in
+    let l = rw c.in-Some-fitting.is at (left c.before.before) in
+    let card = c.in-Some-fitting.card in
     card_answers built_in built_in_set c.args.s c.count-n.result (counted c.args.s _ _ _ c.rows-rows.ensures c.alone.ensures c.count-n.ensures.weight)
-    c.five-test.card l.1 true (l.2.0 one) refl
-    (λ b k. rw one at (l.2.1 b k)) _ (c.alone-2.ensures ∙ ap (λ (z : List ℕ). rows_only z c.five-test.card) c.rows-rows.ensures)
+    card l.0.0 true l.0.2 refl l.1 _ (c.alone-2.ensures ∙ ap (λ (z : List ℕ). rows_only z card) c.rows-rows.ensures)

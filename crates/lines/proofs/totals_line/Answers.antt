@@ -1,9 +1,11 @@
 -- Five pieces, one after the other.
-use Rattle.text.proofs.Pieces.{joined}
+use Rattle.text.proofs.Pieces.{added}
 use Rattle.lines.proofs.totals_line.Goals as goal
 
 pub returns : goal.returns
 returns c =
-    joined c.labelled-first.ensures.put
-    (joined c.labelled-second.ensures.put
-    (joined c.labelled-third.ensures.put (joined c.labelled-fourth.ensures.put c.number_line.ensures.put)))
+    let whole =
+    added c.labelled.ensures
+    (added c.labelled-2.ensures (added c.labelled-3.ensures (added c.labelled-4.ensures c.number_line.ensures)))
+    in
+    rw (c.from.ensures, c.from-2.ensures, c.from-3.ensures, c.from-4.ensures, c.from-5.ensures) at whole

@@ -1,31 +1,23 @@
 -- One block's line more, each time.
-use Rattle.std.proofs.Common.{◌≡◌, ℕ, ◌+◌, ◌*◌, ◌≤◌, length, refl, subst, arith}
+use Rattle.std.proofs.Common.{◌≡◌, ◌+◌, ◌*◌, ◌≤◌, [], get_or, length, sym, ap, ◌∙◌, arith}
 use Rattle.reading.specs.Reading.{reading_answer}
 use Rattle.bank.specs.Calls.{blocks}
-use Rattle.bank.proofs.Done.{looked}
-use Rattle.program.specs.Parts.{BlocksPut}
-use Rattle.program.proofs.Blocks.{no_block, one_block_more}
+use Rattle.bank.proofs.Done.{part_is, looked}
+use Rattle.program.proofs.Blocks.{no_block, one_block_more, chunk_is}
 use Rattle.program.proofs.block_lines.Goals as goal
 
 pub loop-k-init : goal.loop-k-init
-loop-k-init c = record { in_range = omega arith; many = refl; put = no_block _ _ _ _ }
+loop-k-init c = no_block _ _ _
 
 pub loop-k-preserved : goal.loop-k-preserved
 loop-k-preserved c =
+    let bank = c.args.bank.now in
+    let k = c.loop-k.k in
     let a = reading_answer c.look-r.result in
-    let room : 45 * c.loop-k.k + 45 ≤ length c.args.bank.now = omega arith in
-    let reads = looked c.args.bank.now c.args.m c.loop-k.k a _ room c.requires.1 c.look-r.ensures in
-    record {
-      in_range = omega arith;
-      many = refl;
-      put = one_block_more _ _ _ _ _ _ _ _ _ a c.loop-k.invariant.put reads c.block_line-at.ensures;
-    }
+    let room : 45 * k + 45 ≤ length bank = omega (arith, c.as_chunks.ensures.front_len) in
+    let e = ap (λ l. get_or l k []) c.as_chunks.ensures.front ∙ chunk_is (blocks bank) k bank [] (omega (arith, c.as_chunks.ensures.front_len)) ∙ sym (part_is bank k) in
+    let reads = looked bank c.args.m k a _ room c.requires.1 (rw e at c.look-r.ensures) in
+    one_block_more bank c.args.m k a c.loop-k.invariant reads c.block_line.ensures
 
 pub returns : goal.returns
-returns c =
-    let e : c.loop-k.k ≡ blocks c.args.bank.now = omega arith in
-    record {
-      blocks_put =
-          subst (λ (n : ℕ). BlocksPut c.args.bank.now c.args.m n c.args.out.now c.args.from c.loop-k.at c.loop-k.out) e c.loop-k.invariant.put;
-      bank_value = refl;
-    }
+returns c = let e : c.loop-k.k ≡ blocks c.args.bank.now = omega (arith, c.as_chunks.ensures.front_len) in rw e at c.loop-k.invariant

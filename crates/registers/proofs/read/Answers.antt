@@ -1,12 +1,7 @@
--- The address decides.
-use borrow.Author.Tests.{lt-ltb, le-ltb}
-use Rattle.registers.specs.Write.{read_value}
+-- The byte that stands at the address, or none, and then the refusal.
+use mathlib.Core.Path.{refl}
+use Rattle.registers.proofs.Plain.{read_is}
 use Rattle.registers.proofs.read.Goals as goal
 
-pub returns-then-a-gt11 : goal.returns-then-a-gt11
-unfolding read_value
-returns-then-a-gt11 c = simp (lt-ltb 11 _ c.if-a-gt11.true)
-
 pub returns : goal.returns
-unfolding read_value
-returns c = simp (le-ltb 11 _ c.if-a-gt11.false, c.to_bytes-b.ensures)
+returns c = read_is _ _ _ _ _ _ _ c.to_bytes.ensures c.get.ensures.lookup c.copied.ensures c.ok_or.ensures.value refl

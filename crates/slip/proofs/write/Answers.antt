@@ -1,37 +1,46 @@
 -- The causes in their order; then the slip that was made is put there.
 use Prim.Native.Nat.{◌+◌}
-use mathlib.Core.Path.{sym, ◌∙◌, subst}
-use mathlib.Core.Bool.{true≢false}
+use mathlib.Core.Path.{sym, subst, ◌∙◌}
+use borrow.Author.Tests.{ltb-true, ltb-false}
 use native.Mathlib.Omega.{arith}
 use Rattle.reading.specs.Reading.{reading_answer}
 use Rattle.slip.specs.Calls.{WriteSlipDone}
-use Rattle.slip.specs.declared.Wrote.TheVariants.{Next}
-use Rattle.slip.proofs.Writing.{made_size, write_bad, write_full, write_done}
+use Rattle.slip.specs.Wrote.{Next}
+use Rattle.slip.proofs.Writing.{made_size, write_refused, write_full, write_done}
 use Rattle.slip.proofs.write.Goals as goal
+use Rattle.slip.proofs.write.Goals.{then-at-slips, else-at-slips}
 
-pub returns-then-not-has_slip : goal.returns-then-not-has_slip
-returns-then-not-has_slip c = write_bad _ _ _ _ (λ h. true≢false (sym (c.has_slip.ensures.1 h) ∙ c.if-not-has_slip.true))
-
-pub slip-made-requires : goal.slip-made-requires
-slip-made-requires c = c.has_slip.ensures.0 c.if-not-has_slip.false
-
-pub returns-then-at-slips : goal.returns-then-at-slips
-returns-then-at-slips c = write_full _ _ _ _ (c.has_slip.ensures.0 c.if-not-has_slip.false) (omega (arith, c.if-at-slips.true))
+pub returns-in_err-made : goal.returns-in_err-made
+returns-in_err-made c = write_refused _ _ _ _ _ c.in_err-made.field-0.0 c.from_residual.ensures.1 c.in_err-made.ensures
 
 pub returns-then-full : goal.returns-then-full
 returns-then-full c =
-    let h = c.has_slip.ensures.0 c.if-not-has_slip.false in
-    let n = made_size _ _ c.slip-made.result c.slip-made.ensures h in
-    write_full _ _ _ _ h (omega (arith, c.if-full.true, n.0, c.slip-made.ensures.size))
+    let (h, m) = c.in_ok-made.ensures in
+    write_full _ _ _ _ h
+    (elim c.if-at-slips.branch [
+      | then-at-slips w ↦ omega (arith, w.if-at-slips.true)
+      | else-at-slips w ↦ omega (arith, ltb-true _ _ (sym w.full-is ∙ c.if-full.true), w.if-at-slips.false, (made_size _ _ _ m h).0, m.size)
+    ])
 
 pub put-requires : goal.put-requires
 put-requires c =
-    let n = made_size _ _ c.slip-made.result c.slip-made.ensures (c.has_slip.ensures.0 c.if-not-has_slip.false) in
-    (n.0, n.1, n.2, omega (arith, c.if-full.false, c.if-at-slips.false))
+    let (h, m) = c.in_ok-made.ensures in
+    let n = made_size _ _ _ m h in (
+      n.0,
+      n.1,
+      n.2,
+      elim c.if-at-slips.branch [
+        | then-at-slips w ↦ omega (arith, ltb-false _ _ (sym w.full-is ∙ c.if-full.false), w.if-at-slips.true)
+        | else-at-slips w ↦ omega (arith, ltb-false _ _ (sym w.full-is ∙ c.if-full.false), w.if-at-slips.false)
+      ],
+    )
 
 pub returns : goal.returns
 returns c =
-    let h = c.has_slip.ensures.0 c.if-not-has_slip.false in
-    subst (WriteSlipDone c.args.slips.now c.args.at c.args.k (reading_answer c.args.r) (Next (c.args.at + c.slip-made.result.size)))
+    let (h, m) = c.in_ok-made.ensures in
+    subst (WriteSlipDone c.args.slips.now c.args.at c.args.k (reading_answer c.args.r) (Next (c.args.at + c.in_ok-made.made.size)))
     (sym c.put.ensures.slips_after)
-    (write_done _ _ _ _ c.slip-made.result c.slip-made.ensures h (omega (arith, c.if-full.false, c.if-at-slips.false)))
+    (write_done _ _ _ _ _ m h (elim c.if-at-slips.branch [
+      | then-at-slips w ↦ omega (arith, ltb-false _ _ (sym w.full-is ∙ c.if-full.false), w.if-at-slips.true)
+      | else-at-slips w ↦ omega (arith, ltb-false _ _ (sym w.full-is ∙ c.if-full.false), w.if-at-slips.false)
+    ]))

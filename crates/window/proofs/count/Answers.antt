@@ -1,22 +1,18 @@
-use mathlib.Core.List.{[]}
 use Prim.Native.Nat.{◌<◌}
-use Rattle.window.proofs.Counted.{none_counted, count_le, one_counted}
+use Rattle.window.proofs.Counted.{count_le, one_counted}
 use native.Mathlib.Omega.{arith}
 use Rattle.window.proofs.count.Goals as goal
 
-pub loop-i-init : goal.loop-i-init
-loop-i-init c = (omega arith, none_counted [] c.args.c.now c.requires.1)
-
 pub overflow_add-c : goal.overflow_add-c
 overflow_add-c c =
-    let a : c.to_usize-p.result < 256 = omega (arith, c.type_inv.w c.loop-i.i) in
+    let a : c.from.result < 256 = omega (arith, c.from.ensures, c.fits-w c.loop-b.b-index) in
     record {
-      fits = omega (arith, c.requires.0, count_le c.args.w.now c.loop-i.c c.loop-i.i (omega arith) c.loop-i.invariant.1 c.to_usize-p.result a);
+      fits = omega (arith, c.told-w, count_le c.args.w.now c.loop-b.c c.loop-b.b-index (omega arith) c.loop-b.invariant.1 c.from.result a);
     }
 
-pub loop-i-preserved : goal.loop-i-preserved
-loop-i-preserved c = (
+pub loop-b-preserved : goal.loop-b-preserved
+loop-b-preserved c = (
   omega arith,
-  one_counted c.args.w.now c.loop-i.c c.loop-i.i (omega arith) c.loop-i.invariant.1 c.to_usize-p.result
-      (omega (arith, c.type_inv.w c.loop-i.i)) c.to_usize-p.ensures,
+  one_counted c.args.w.now c.loop-b.c c.loop-b.b-index (omega arith) c.loop-b.invariant.1 c.from.result
+      (omega (arith, c.from.ensures, c.fits-w c.loop-b.b-index)) c.from.ensures,
 )

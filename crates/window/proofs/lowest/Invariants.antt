@@ -1,11 +1,10 @@
--- Sought by a loop. Invariant: p is reached by the counts, and no position below it passes.
+-- A position that stands there often enough, and none below it may be proposed.
 use Prim.Native.Nat.{◌-◌}
-use Rattle.window.specs.Count.{Counts}
 use Rattle.window.proofs.Proposed.{Reached}
 use Rattle.window.proofs.lowest.Given as goal
 
-abbrev pub invariant-loop-p : goal.invariant-loop-p
-invariant-loop-p l = Counts l.w l.c × Reached l.w l.m l.p
+abbrev pub invariant-loop-m : goal.invariant-loop-m
+invariant-loop-m l = Reached l.w l.m l.c l.p
 
-abbrev pub decreases-loop-p : goal.decreases-loop-p
-decreases-loop-p l = 45 - l.p
+abbrev pub decreases-loop-m : goal.decreases-loop-m
+decreases-loop-m l = 45 - l.p

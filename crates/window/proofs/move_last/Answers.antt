@@ -11,4 +11,4 @@ returns c =
     let whole =
     put_behind w (replicate 11 0) at c.copy_from_slice.new.self c.copy_from_slice-2.new.self c.requires.0 refl c.copy_from_slice.ensures.after
     c.copy_from_slice-2.ensures.after in
-    back_moved w at _ c.copy_from_slice-3.new.self c.args.n c.requires.0 c.requires.1 c.requires.2 whole c.copy_from_slice-3.ensures.after
+    back_moved w at _ c.copy_from_slice-3.new.self c.args.n c.requires.0 c.told-at c.requires.1 whole c.copy_from_slice-3.ensures.after

@@ -8,7 +8,7 @@ pub returns : goal.returns
 returns c =
     let w = c.args.w.now in
     let n = c.args.n in
-    let h16 = c.move_down.ensures ∙ down_more w w 0 n c.requires.0 (omega (arith, c.requires.2)) refl in
-    let h32 = c.move_down-2.ensures ∙ down_more w c.move_down.new.w 16 n c.requires.0 (omega (arith, c.requires.2)) h16 in
-    let h48 = c.move_down-3.ensures ∙ down_more w c.move_down-2.new.w 32 n c.requires.0 (omega (arith, c.requires.2)) h32 in
-    all_moved w c.args.at.now c.move_down-3.new.w c.move_last.new.last n c.requires.0 c.requires.1 c.requires.2 h48 c.move_last.ensures
+    let h16 = c.move_down.ensures ∙ down_more w w 0 n c.told-w (omega (arith, c.requires)) refl in
+    let h32 = c.move_down-2.ensures ∙ down_more w c.move_down.new.w 16 n c.told-w (omega (arith, c.requires)) h16 in
+    let h48 = c.move_down-3.ensures ∙ down_more w c.move_down-2.new.w 32 n c.told-w (omega (arith, c.requires)) h32 in
+    all_moved w c.args.at.now c.move_down-3.new.w c.move_last.new.last n c.told-w c.told-at c.requires h48 c.move_last.ensures

@@ -1,10 +1,7 @@
--- Sought by a loop. Invariant: none from p on and before q is counted four times.
-use Prim.Native.Nat.{ℕ, ◌≤◌, ◌<◌, ◌-◌}
+-- None from p on and before q is counted four times.
+use Prim.Native.Nat.{ℕ, ◌≤◌, ◌<◌}
 use lib.ListN.{get_or}
 use Rattle.window.proofs.next_often.Given as goal
 
 abbrev pub invariant-loop-q : goal.invariant-loop-q
-invariant-loop-q l = (l.p ≤ l.q) × ((i : ℕ) → l.p ≤ i → i < l.q → get_or l.c i 0 < 4)
-
-abbrev pub decreases-loop-q : goal.decreases-loop-q
-decreases-loop-q l = 45 - l.q
+invariant-loop-q l = (i : ℕ) → l.p ≤ i → i < l.q → get_or l.c i 0 < 4

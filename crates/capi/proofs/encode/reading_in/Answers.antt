@@ -1,20 +1,48 @@
--- The parts of the code are taken out as the header's functions do, and told as the definition has it.
+-- The four bytes of the code are its parts, as the header's functions take them out, and told as the definition has it.
+use mathlib.Core.Path.{◌≡◌, sym, ap, ◌∙◌}
+use mathlib.Core.List.{List}
+use mathlib.Core.Logic.{◌≢◌}
+use Prim.Native.Nat.{ℕ}
 use native.Mathlib.Omega.{arith}
-use borrow.Author.Rules.{rules}
+use Rattle.std.proofs.Common.{rules, slice_index_or}
 use Rattle.capi.proofs.Slips.{told_several, told_refused, told_clean, told_chips, told_card}
 use Rattle.capi.proofs.encode.reading_in.Goals as goal
 
-pub returns-then-number-eq11 : goal.returns-then-number-eq11
-returns-then-number-eq11 c = told_several c.args.c (omega (arith, c.ranges.c)) c.if-number-eq11.true
-
-pub returns-then-number-ne0 : goal.returns-then-number-ne0
-returns-then-number-ne0 c = told_refused c.args.c (omega (arith, c.ranges.c)) c.if-number-ne0.true c.if-number-eq11.false
+-- byte i of the four
+part : (l m : List ℕ) (i : ℕ) → l ≡ m → slice_index_or l i 0 ≡ slice_index_or m i 0
+part l m i e = ap (λ (x : List ℕ). slice_index_or x i 0) e
 
 pub returns-in-0 : goal.returns-in-0
-returns-in-0 c = told_clean c.args.c (omega (arith, c.ranges.c)) c.if-number-ne0.false c.in-0.is
+returns-in-0 c =
+    let e = c.to_le_bytes.ensures in
+    let n : slice_index_or c.to_le_bytes.result 0 0 ≡ 0 = search rules in
+    let k : slice_index_or c.to_le_bytes.result 1 0 ≡ 0 = search rules in
+    told_clean c.args.c (omega (arith, c.ranges.c)) (sym (part _ _ 0 e) ∙ n) (sym (part _ _ 1 e) ∙ k)
 
-pub returns-in-1 : goal.returns-in-1
-returns-in-1 c = told_chips c.args.c (omega (arith, c.ranges.c)) c.if-number-ne0.false c.in-1.is
+pub returns-in-0-2 : goal.returns-in-0-2
+returns-in-0-2 c =
+    let e = c.to_le_bytes.ensures in
+    let n : slice_index_or c.to_le_bytes.result 0 0 ≡ 0 = search rules in
+    let k : slice_index_or c.to_le_bytes.result 1 0 ≡ 1 = search rules in
+    rw e (told_chips c.args.c (omega (arith, c.ranges.c)) (sym (part _ _ 0 e) ∙ n) (sym (part _ _ 1 e) ∙ k))
+
+pub returns-in-0-3 : goal.returns-in-0-3
+returns-in-0-3 c =
+    let e = c.to_le_bytes.ensures in
+    let n : slice_index_or c.to_le_bytes.result 0 0 ≡ 0 = search rules in
+    let f : slice_index_or c.to_le_bytes.result 1 0 ≢ 0 = search rules in
+    let g : slice_index_or c.to_le_bytes.result 1 0 ≢ 1 = search rules in
+    rw e (told_card c.args.c (omega (arith, c.ranges.c)) (sym (part _ _ 0 e) ∙ n) (λ z. f (part _ _ 1 e ∙ z)) (λ z. g (part _ _ 1 e ∙ z)))
+
+pub returns-in-11 : goal.returns-in-11
+returns-in-11 c =
+    let e = c.to_le_bytes.ensures in
+    let n : slice_index_or c.to_le_bytes.result 0 0 ≡ 11 = search rules in
+    rw e (told_several c.args.c (omega (arith, c.ranges.c)) (sym (part _ _ 0 e) ∙ n))
 
 pub returns-in_default : goal.returns-in_default
-returns-in_default c = told_card c.args.c (omega (arith, c.ranges.c)) c.if-number-ne0.false (search rules) (search rules)
+returns-in_default c =
+    let e = c.to_le_bytes.ensures in
+    let f : slice_index_or c.to_le_bytes.result 0 0 ≢ 0 = search rules in
+    let g : slice_index_or c.to_le_bytes.result 0 0 ≢ 11 = search rules in
+    rw e (told_refused c.args.c (omega (arith, c.ranges.c)) (λ z. f (part _ _ 0 e ∙ z)) (λ z. g (part _ _ 0 e ∙ z)))

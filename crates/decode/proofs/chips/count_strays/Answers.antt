@@ -1,29 +1,28 @@
-use mathlib.Core.Path.{◌≡◌, refl}
+use mathlib.Core.Path.{refl, ap, ◌∙◌}
 use native.Mathlib.Omega.{arith}
-use Rattle.base.specs.Base.{tally}
-use Rattle.base.proofs.Tally.{count_some, count_same}
+use Rattle.base.specs.Base.{bit, tally}
+use Rattle.base.proofs.Tally.{count_more, at_most, one_le}
 use Rattle.marks.specs.Marks.{marked_chips}
+use Rattle.change.proofs.Weight.{bit_of}
 use Rattle.decode.specs.Search.{stray}
+use Rattle.decode.proofs.Marked.{is_stray}
 use Rattle.decode.proofs.chips.count_strays.Goals as goal
-use Rattle.decode.proofs.chips.count_strays.Goals.{then-is_stray, else-is_stray}
 
 pub loop-i-init : goal.loop-i-init
 unfolding tally
-loop-i-init c = (omega arith, omega arith, refl)
+loop-i-init c = refl
 
-pub is_stray-requires : goal.is_stray-requires
-is_stray-requires c = (c.loop-i-test.true, c.before.before.requires)
+pub overflow_add-n : goal.overflow_add-n
+overflow_add-n c =
+    omega (
+      arith,
+      at_most c.loop-i.i (stray c.args.d (marked_chips c.args.m)) _ c.loop-i.invariant,
+      c.from-n.ensures,
+      bit_of c.is_stray.result,
+      one_le c.is_stray.result,
+    )
 
 pub loop-i-preserved : goal.loop-i-preserved
 loop-i-preserved c =
-    let is = stray c.args.d (marked_chips c.args.m) in (
-      omega arith,
-      elim c.if-is_stray.branch [ then-is_stray w ↦ omega (arith, w.n-is) | else-is_stray w ↦ omega (arith, w.n-is) ],
-      elim c.if-is_stray.branch [
-        | then-is_stray w ↦ count_some is c.loop-i.i _ _ _ c.loop-i.invariant.2 c.is_stray.ensures w.if-is_stray.true w.n-is
-        | else-is_stray w ↦ count_same is c.loop-i.i _ _ _ c.loop-i.invariant.2 c.is_stray.ensures w.if-is_stray.false w.n-is
-      ],
-    )
-
-pub returns : goal.returns
-returns c = let e : c.before.loop-i.i ≡ 9 = omega arith in rw e at c.before.loop-i.invariant.2
+    count_more (stray c.args.d (marked_chips c.args.m)) c.loop-i.i _ _ _ c.loop-i.invariant
+    (c.from-n.ensures ∙ bit_of c.is_stray.result ∙ ap bit (is_stray c.args.d c.args.m c.loop-i.i _ (rw c.from.ensures at c.is_stray.ensures))) refl

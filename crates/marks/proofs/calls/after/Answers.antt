@@ -7,7 +7,7 @@ use lib.Dec.{ltb}
 use mir.Val.{Fits}
 use mir.Syntax.{w8}
 use borrow.Author.Tests.{ltb-true, not-false}
-use Rattle.marks.specs.Mark.{mark_cause, marked}
+use Rattle.marks.specs.Mark.{mark_cause}
 use Rattle.marks.specs.declared.Marks.{Marks}
 use Rattle.marks.specs.declared.MarkCall.{MarkCall}
 use Rattle.marks.proofs.Laws.{Can, can}
@@ -31,11 +31,3 @@ without_chip-requires c = not-false _ (case _ _ _ c.in-LiftChip.is c.requires).t
 
 pub overflow_cast-result : goal.overflow_cast-result
 overflow_cast-result c = byte _ 5 (case _ _ _ c.in-PlaceCard.is c.requires).asked (omega arith)
-
-pub returns-in-PlaceCard : goal.returns-in-PlaceCard
-unfolding marked
-returns-in-PlaceCard c = sym (ap (marked _) c.in-PlaceCard.is)
-
-pub returns-in-LiftCard : goal.returns-in-LiftCard
-unfolding marked
-returns-in-LiftCard c = sym (ap (marked _) c.in-LiftCard.is)

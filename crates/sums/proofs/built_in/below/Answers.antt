@@ -1,5 +1,5 @@
 -- The code's shifts and sums are the map's.
-use mathlib.Core.Path.{refl}
+use Rattle.std.proofs.Common.{refl}
 use Rattle.field.specs.Field.{◌⊕◌}
 use Rattle.pairs.specs.Shifts.{up}
 use Rattle.sums.specs.Maps.{lower}

@@ -1,8 +1,7 @@
-use mathlib.Core.Path.{◌≡◌, refl, sym, ap, ◌∙◌, subst}
-use Prim.Native.Nat.{ℕ, ◌+◌, ◌<◌, ◌*◌}
-use native.Mathlib.Omega.{arith}
-use lib.ListN.{get_or}
-use Rattle.field.specs.Field.{sum, ◌⊕◌}
+-- A byte times a small word fits.
+use Rattle.std.proofs.Common.{◌≡◌, ℕ, ◌+◌, ◌*◌, ◌<◌, get_or, refl, sym, ap, ◌∙◌, subst, arith}
+use Rattle.field.specs.Field.{◌⊕◌, sum}
+use Rattle.field.proofs.Xor.{add_comm}
 use Rattle.code.specs.Labels.{built_in}
 use Rattle.pairs.specs.Words.{spread, gathered}
 use Rattle.pairs.proofs.Points.{one_more, spread_small, word_fits}
@@ -10,32 +9,26 @@ use Rattle.sums.proofs.built_in.gather_card.Goals as goal
 
 pub loop-i-init : goal.loop-i-init
 unfolding sum
-loop-i-init c = (omega arith, refl)
+loop-i-init c = refl
 
 pub overflow_mul-u : goal.overflow_mul-u
 overflow_mul-u c =
-    let l = c.before.before.before in
-    let s = l.before.before.before in
-    let i : ℕ = l.loop-i.i in
-    let here : i < 9 = c.before.before.loop-i-test.true in
+    let i : ℕ = c.loop-i.i in
     record {
-      fits = word_fits c.wide.result (get_or l.before.card_words-own.result i 0)
-          (omega (arith, c.wide.ensures, c.before.shared_slice_known-in-loop-i-1.given i))
-          (subst (λ (x : ℕ). x < 0x0101010101010102) (sym (c.card_words-own.ensures i here)) (spread_small built_in (9 * s.args.j + i)));
+      fits = word_fits c.from.result (get_or c.card_words-own.result i 0) (omega arith)
+          (subst (λ (x : ℕ). x < 0x0101010101010102) (sym (c.card_words-own.ensures i c.loop-i-test.true)) (spread_small built_in (9 * c.args.j + i)));
     }
 
 pub loop-i-preserved : goal.loop-i-preserved
 unfolding ◌⊕◌
 loop-i-preserved c =
-    let l = c.before.before.before in
-    let s = l.before.before.before in
-    let b : ℕ → ℕ = λ q. get_or s.args.rows.now q 0 in
-    let w : ℕ → ℕ = λ q. get_or (spread built_in) (9 * s.args.j + q) 0 in (
-      omega arith,
-      ap (λ (x : ℕ). (c.wide.result * x) ⊕ l.loop-i.u) (c.card_words-own.ensures l.loop-i.i c.before.before.loop-i-test.true)
-          ∙ one_more b w l.loop-i.i c.wide.result l.loop-i.u c.wide.ensures l.loop-i.invariant.1,
-    )
+    let i : ℕ = c.loop-i.i in
+    let row : ℕ → ℕ = λ q. get_or c.args.rows q 0 in
+    let word : ℕ → ℕ = λ q. get_or (spread built_in) (9 * c.args.j + q) 0 in
+    ap (λ (x : ℕ). c.loop-i.u ⊕ (c.from.result * x)) (c.card_words-own.ensures i c.loop-i-test.true)
+    ∙ add_comm c.loop-i.u (c.from.result * word i)
+    ∙ one_more row word i c.from.result c.loop-i.u c.from.ensures c.loop-i.invariant
 
 pub returns : goal.returns
 unfolding gathered
-returns c = let e : c.before.loop-i.i ≡ 9 = omega arith in rw e at c.before.loop-i.invariant.1
+returns c = let e : c.loop-i.i ≡ 9 = omega (arith, c.loop-i-test.false, c.loop-i.auto.i-end) in rw e at c.loop-i.invariant
