@@ -59,7 +59,7 @@ pub fn clear(bank: &mut [u8]) -> Result<(), Refusal>
     Ok(())
 }
 
-// Puts a record into block k.
+// Puts a record into block k. Here and below the block is cut out where it is lent: a function for it would be one for `&` and one for `&mut`.
 pub fn put(bank: &mut [u8], k: usize, rec: &[u8]) -> Result<(), Refusal>
     ensures { PutDone bank.old k rec.now (outcome_answer result) bank.new rec.now }
 {

@@ -177,7 +177,7 @@ fn was_corrected(r: Reading) -> bool
     r.is_ok()
 }
 
-// The record: the first 34 bytes of that same output where the reading is corrected, else an empty part of it.
+// The record: the first 34 bytes of that same output where the reading is corrected, else an empty part of it, as document 01 asks: no Option.
 pub fn record_part<'a>(out: &'a [u8], r: Reading) -> &'a [u8]
     ensures { (result.now ≡ record_in out.now (reading_answer r)) × (result.ref_ptr ≡ out.entry.ref_ptr) × (out.now ≡ out.now) }
 {
